@@ -1,0 +1,5 @@
+pub mod Records
+pub mod Adding
+pub mod Overwrites
+pub mod Repacks
+pub mod Listing

@@ -1,0 +1,4 @@
+pub mod Log
+pub mod Stores
+pub mod Sums
+pub mod Packing
