@@ -47,8 +47,8 @@ module _ {R V : Type 0} (f : R → V) (none : R) (log : Log V) where
             ⊎-elim
             (λ less. rw (getD-append-left marks (m ∷ []) 0 i (omega arith), getD-append-left values (x ∷ []) none i (omega arith)) (so .each i less))
             (λ past.
-                let at : i ≡ n = omega arith in
-                rw (at, getD-push marks m 0 n b, getD-push values x none n a) is)
+            let at : i ≡ n = omega arith in
+            rw (at, getD-push marks m 0 n b, getD-push values x none n a) is)
             (cases-lt i n);
       }
 
@@ -56,8 +56,7 @@ module _ {R V : Type 0} (f : R → V) (none : R) (log : Log V) where
   alike values marks so =
       let a = so .values-long in
       let b = so .marks-long in
-      let count : log .slots ≡ min (length values) (length marks) = omega arith in
-      (
+      let count : log .slots ≡ min (length values) (length marks) = omega arith in (
         count,
         λ i.
             ⊎-elim

@@ -71,15 +71,15 @@ module _ {V : Type 0} (G : Group V) (c : Codec 256 V) where
         (λ same. absurd (other same))
         (⊎-elim
         (λ less.
-            let before = apart i slot (width c) less in
-            ap (λ n. take n (drop p (putMid at (width c) bytes row))) (sym end)
-            ∙ between-is (putMid at (width c) bytes row) p (p + width c)
-            ∙ ap (drop p) (take-putMid-below at (width c) bytes row (p + width c) (omega arith) below)
-            ∙ sym (between-is bytes p (p + width c))
-            ∙ ap (λ n. take n (drop p bytes)) end)
+        let before = apart i slot (width c) less in
+        ap (λ n. take n (drop p (putMid at (width c) bytes row))) (sym end)
+        ∙ between-is (putMid at (width c) bytes row) p (p + width c)
+        ∙ ap (drop p) (take-putMid-below at (width c) bytes row (p + width c) (omega arith) below)
+        ∙ sym (between-is bytes p (p + width c))
+        ∙ ap (λ n. take n (drop p bytes)) end)
         (λ more.
-            let after = apart slot i (width c) more in
-            ap (take (width c)) (drop-putMid at (width c) bytes row p (omega arith) below long)))
+        let after = apart slot i (width c) more in
+        ap (take (width c)) (drop-putMid at (width c) bytes row p (omega arith) below long)))
         (cases-order i slot)
 
   lost-mark : (o : Option V) (byte : ℕ) → byte ≡ 0 → mark-with o byte ≡ mark.Lost

@@ -51,23 +51,22 @@ module _ {V : Type 0} (G : Group V) (c : Codec 256 V) (old : List ℕ) where
             ⊎-elim
             (λ less. let other : i ≡ n → ⊥ = λ e. omega arith in elsewhere G c new n row same fits i other ∙ so .each i less)
             (λ past.
-                let at : i ≡ n = omega arith in
-                let now : record-bytes c (overwritten new (n * width c) row) n ≡ packed-record c (slot-of (answer (packed-log G c old) n)) = here G c new n row same fits ∙ ap (packed-record c) is in
-                subst (λ k. record-bytes c (overwritten new (n * width c) row) k ≡ packed-record c (slot-of (answer (packed-log G c old) k))) (sym at) now)
+            let at : i ≡ n = omega arith in
+            let now : record-bytes c (overwritten new (n * width c) row) n ≡ packed-record c (slot-of (answer (packed-log G c old) n)) = here G c new n row same fits ∙ ap (packed-record c) is in
+            subst (λ k. record-bytes c (overwritten new (n * width c) row) k ≡ packed-record c (slot-of (answer (packed-log G c old) k))) (sym at) now)
             (cases-lt i n);
       })
 
   -- a kept record is its mark byte 1 and the bytes of its value
   kept-parts : (o : Option V) (byte : ℕ) → mark-with o byte ≡ mark.Kept → (byte ≡ 1) × (o ≡ Some (valueOr o (G .zero)))
   kept-parts None byte e = let z : _≡_ {A = ℕ} 0 1 = cc in absurd (omega arith)
-  kept-parts (Some v) byte e =
-      (
-        ⊎-elim
+  kept-parts (Some v) byte e = (
+    ⊎-elim
         (λ is. eqb-true byte 1 is)
         (λ is. let lost : mark.Lost ≡ mark.Kept = sym (cond-false _ _ _ is) ∙ e in let z : _≡_ {A = ℕ} 0 1 = cc in absurd (omega arith))
         (cases-bool (eqb byte 1)),
-        refl,
-      )
+    refl,
+  )
 
   whole-row : (row : List ℕ) → 0 < length row → row ≡ getD row 0 0 ∷ drop 1 row
   whole-row [] some = absurd (omega arith)

@@ -18,7 +18,11 @@ impl<S> Window<S> {
     pub fn new(below: S, start: usize, length: usize) -> Window<S>
         ensures { λ r. ⌜ r ≡ record { below = below; start = start; length = length } ⌝ }
     {
-        Window { below, start, length }
+        Window {
+            below,
+            start,
+            length,
+        }
     }
 }
 

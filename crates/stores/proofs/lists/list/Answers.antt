@@ -24,11 +24,10 @@ loop-slot-again g c =
     let within : slot < log .slots = omega arith in
     let entry = c .listed-value .result in
     let values : vec-items (c .push .last .self) ≡ vec-items (c .loop-slot .values) ++ entry .0 ∷ [] =
-        pushed (entry .0 ∷ []) refl (c .in-Continue-push .was tt) (c .push .ensures .items) in
+    pushed (entry .0 ∷ []) refl (c .in-Continue-push .was tt) (c .push .ensures .items) in
     let marks : vec-items (c .push-in-loop-slot .last .self) ≡ vec-items (c .loop-slot .marks) ++ entry .1 ∷ [] =
-        pushed (entry .1 ∷ []) refl (c .in-Continue-push-2 .was tt) (c .push-in-loop-slot .ensures .items) in
-    let is = c .listed-value .ensures ∙ ap kept-or-missing (c .read .ensures) ∙ listed-inside log slot within in
-    (
+    pushed (entry .1 ∷ []) refl (c .in-Continue-push-2 .was tt) (c .push-in-loop-slot .ensures .items) in
+    let is = c .listed-value .ensures ∙ ap kept-or-missing (c .read .ensures) ∙ listed-inside log slot within in (
       omega arith,
       rw (values, marks) (sofar-more meaning none log (vec-items (c .loop-slot .values)) (vec-items (c .loop-slot .marks)) slot (entry .0) (entry .1) (c .loop-slot .inv .1) is),
     )

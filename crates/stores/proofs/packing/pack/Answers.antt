@@ -20,14 +20,14 @@ returns g c =
     let size : c .byte-count-size .result ≡ codec .size = c .byte-count-size .ensures in
     let found = c .in-Some .ensures tt in
     let start : at ≡ slot * width codec =
-        begins at slot _ _ (found .within .1) (found .value) ∙ ap (λ n. slot * (1 + n)) size in
+    begins at slot _ _ (found .within .1) (found .value) ∙ ap (λ n. slot * (1 + n)) size in
     let long : at + 1 + c .from .result - at ≡ width codec = omega arith in
     let within : slot < length bytes / width codec = rw (← size) (found .within .1) in
     let part : length (take (at + 1 + c .from .result - at) (drop at bytes)) ≡ width codec =
-        omega (arith, length-take (at + 1 + c .from .result - at) (drop at bytes), length-drop at bytes, found .within .0) in
+    omega (arith, length-take (at + 1 + c .from .result - at) (drop at bytes), length-drop at bytes, found .within .0) in
     let row : c .write-record .last .row ≡ packed-record codec what = c .write-record .ensures part in
     let whole : putMid at (at + 1 + c .from .result - at) bytes (c .write-record .last .row) ≡ overwritten bytes (slot * width codec) (packed-record codec what) =
-        (λ i. putMid (start i) (long i) bytes (row i)) ∙ putMid-overwritten (slot * width codec) (width codec) bytes _ (length-record (g .K·Kind .group) codec what) in
+    (λ i. putMid (start i) (long i) bytes (row i)) ∙ putMid-overwritten (slot * width codec) (width codec) bytes _ (length-record (g .K·Kind .group) codec what) in
     let inside = lt-ltb slot (length bytes / width codec) within in
     record {
       test = sym inside;

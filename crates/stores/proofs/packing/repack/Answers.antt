@@ -22,8 +22,7 @@ loop-slot-again g c =
     let count = ap (λ bytes. length bytes / width codec) read-from in
     let within : slot < length old / width codec = omega (arith, count) in
     let is : valued-slot meaning (c .as-read .result) ≡ slot-of (answer (packed-log group codec old) slot) =
-        ap (valued-slot meaning) (c .as-read .ensures) ∙ slot-of-valued meaning (c .read .result) ∙ ap slot-of (c .read .ensures .value ∙ ap (λ bytes. answer (packed-log group codec bytes) slot) read-from) in
-    (
+    ap (valued-slot meaning) (c .as-read .ensures) ∙ slot-of-valued meaning (c .read .result) ∙ ap slot-of (c .read .ensures .value ∙ ap (λ bytes. answer (packed-log group codec bytes) slot) read-from) in (
       omega arith,
       subst (λ new. Sofar group codec old new (slot + 1)) (sym (c .pack .ensures .after)) (sofar-more group codec old (c .loop-slot .to) slot _ (c .loop-slot .inv .1) within is),
     )

@@ -17,7 +17,7 @@ returns-else-is-empty g c = λ long.
     let whole = length-set row 0 1 in
     let rest = length-drop 1 (set row 0 1) in
     let part : length (take (length (set row 0 1) - 1) (drop 1 (set row 0 1))) ≡ codec .size =
-        omega (arith, length-take (length (set row 0 1) - 1) (drop 1 (set row 0 1))) in
+    omega (arith, length-take (length (set row 0 1) - 1) (drop 1 (set row 0 1))) in
     let written = c .write-bytes .ensures .after ∙ cond-true _ _ _ (eq-eqb _ (codec .size) part) in
     ap (putMid 1 (length (set row 0 1) - 1) (set row 0 1)) written
     ∙ marked-row row (codec .write (g .K·Kind .meaning (c .in-Kept .value))) some

@@ -19,8 +19,7 @@ kept-more log low slot before here i from to =
 
 pub loop-slot-holds : need.loop-slot-holds
 loop-slot-holds g c =
-    let log = meant (g .K·Kind .meaning) (g .S·Store .log (c .args .store .now)) in
-    (
+    let log = meant (g .K·Kind .meaning) (g .S·Store .log (c .args .store .now)) in (
       omega arith,
       omega arith,
       λ i from to. absurd (omega arith),
@@ -33,8 +32,7 @@ loop-slot-again g c =
     let slot = c .loop-slot .slot in
     let inv = c .loop-slot .inv in
     let within : slot < log .slots = omega arith in
-    let told = value-tells log slot _ within (c .in-Value .ensures tt) in
-    (
+    let told = value-tells log slot _ within (c .in-Value .ensures tt) in (
       omega arith,
       omega arith,
       kept-more log (c .args .low) slot (inv .2) (told .0),
@@ -60,8 +58,7 @@ pub returns : need.returns
 returns g c =
     let inv = c .loop-slot .inv in
     let all : c .loop-slot .slot ≡ c .args .high = omega arith in
-    let log = meant (g .K·Kind .meaning) (g .S·Store .log (c .args .store .now)) in
-    (
+    let log = meant (g .K·Kind .meaning) (g .S·Store .log (c .args .store .now)) in (
       (omega arith, omega arith),
       λ i from to. inv .2 i from (omega arith),
       inv .3 ∙ ap (range-sum (g .K·Kind .group) (log .reading) (c .args .low)) all,

@@ -17,7 +17,7 @@ returns g c =
     let size : c .byte-count-size .result ≡ codec .size = c .byte-count-size .ensures in
     let found = c .in-Some .ensures tt in
     let start : c .in-Some .at ≡ slot * width codec =
-        begins _ slot _ _ (found .within .1) (found .value) ∙ ap (λ n. slot * (1 + n)) size in
+    begins _ slot _ _ (found .within .1) (found .value) ∙ ap (λ n. slot * (1 + n)) size in
     let long : c .in-Some .at + 1 + c .from .result - c .in-Some .at ≡ width codec = omega arith in
     let within : slot < log .slots = rw (← size) (found .within .1) in
     let told-by = c .read-record .ensures ∙ (λ i. let row = take (long i) (drop (start i) bytes) in told (record-mark codec row) (record-reading group codec row)) in
