@@ -2,6 +2,7 @@
 use mathlib.Core.Path.{_≡_}
 use Prim.Native.Nat.{ℕ, zero, suc, _+_, _-_, _≤_, _<_}
 use Rattle.kinds.specs.Group.{Group}
+use Rattle.stores.specs.declared.store.Mark.{Mark}
 use Rattle.stores.specs.declared.store.Mark.the-variants as mark
 use Rattle.stores.specs.declared.sums.RangeFault.{RangeFault}
 use Rattle.stores.specs.declared.sums.RangeFault.the-variants.{BeyondEnd, Empty}
@@ -19,8 +20,15 @@ abbrev pub range-sum : {V : Type 0} → Group V → (ℕ → V) → ℕ → ℕ 
 range-sum G reading low high = total G reading low (high - low)
 
 -- each slot from low to high − 1 is kept
-abbrev pub AllKept : {V : Type 0} → Log V → ℕ → ℕ → Type 0
-AllKept log low high = (i : ℕ) → low ≤ i → i < high → log .mark i ≡ mark.Kept
+abbrev pub All-kept : (ℕ → Mark) → ℕ → ℕ → Type 0
+All-kept marks low high = (i : ℕ) → low ≤ i → i < high → marks i ≡ mark.Kept
+
+-- slot is the lowest lost one of low to high − 1
+pub record Lowest-lost (marks : ℕ → Mark) (low high slot : ℕ) : Type 0 where
+  pub above : low ≤ slot
+  pub below : slot < high
+  pub lost : marks slot ≡ mark.Lost
+  pub lowest : All-kept marks low slot
 
 -- a range of slots within the log, with at least one slot
 abbrev pub Range : {V : Type 0} → Log V → ℕ → ℕ → Type 0
@@ -38,9 +46,8 @@ Faulty log low high Empty = (high ≤ log .slots) × (high ≤ low)
 
 -- what adding up a range answers: the sum where every slot is kept, else the first lost slot
 abbrev pub Answers : {V : Type 0} → Group V → Log V → ℕ → ℕ → Total V → Type 0
-Answers G log low high (Sum v) = Range log low high × AllKept log low high × (v ≡ range-sum G (log .reading) low high)
-Answers G log low high (Lost slot) =
-    Range log low high × (low ≤ slot) × (slot < high) × (log .mark slot ≡ mark.Lost) × AllKept log low slot
+Answers G log low high (Sum v) = Range log low high × All-kept (log .mark) low high × (v ≡ range-sum G (log .reading) low high)
+Answers G log low high (Lost slot) = Range log low high × Lowest-lost (log .mark) low high slot
 Answers G log low high (Refused fault) = Faulty log low high fault
 
 -- the same answer, with the value that the sum means

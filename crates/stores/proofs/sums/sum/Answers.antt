@@ -4,13 +4,13 @@ use Prim.Native.Nat.{ℕ, _+_, _<_, _≤_}
 use native.Mathlib.Omega.{arith}
 use Rattle.std.proofs.shelf.Tests.{cases-lt}
 use Rattle.stores.specs.Log.{Log, meant}
-use Rattle.stores.specs.Sums.{AllKept, range-sum}
+use Rattle.stores.specs.Sums.{All-kept, range-sum}
 use Rattle.stores.specs.declared.store.Mark.the-variants.{Kept}
 use Rattle.stores.proofs.Adding.{sum-none, sum-more, value-tells, missing-tells, outside-tells}
 use Rattle.stores.proofs.sums.sum.Given as given
 use Rattle.stores.proofs.sums.sum.Needs as need
 
-kept-more : {V : Type 0} (log : Log V) (low slot : ℕ) → AllKept log low slot → log .mark slot ≡ Kept → AllKept log low (slot + 1)
+kept-more : {V : Type 0} (log : Log V) (low slot : ℕ) → All-kept (log .mark) low slot → log .mark slot ≡ Kept → All-kept (log .mark) low (slot + 1)
 kept-more log low slot before here i from to =
     ⊎-elim
     (λ below. before i from below)
@@ -44,8 +44,15 @@ returns-in-Missing g c =
     let log = meant (g .K·Kind .meaning) (g .S·Store .log (c .args .store .now)) in
     let slot = c .loop-slot .slot in
     let inv = c .loop-slot .inv in
-    let within : slot < log .slots = omega arith in
-    ((omega arith, omega arith), omega arith, omega arith, missing-tells log slot within (c .in-Missing .ensures tt), inv .2)
+    let within : slot < log .slots = omega arith in (
+      (omega arith, omega arith),
+      record {
+        above = omega arith;
+        below = omega arith;
+        lost = missing-tells log slot within (c .in-Missing .ensures tt);
+        lowest = inv .2;
+      },
+    )
 
 pub returns-in-Outside : need.returns-in-Outside
 returns-in-Outside g c =

@@ -1,0 +1,10 @@
+// The ledger: which sums of a log are told, and why others are not.
+mod answer;
+mod ledger;
+mod token;
+
+pub use answer::Answer;
+pub use answer::Counts;
+pub use answer::Fault;
+pub use ledger::Ledger;
+pub use token::NewLog;
