@@ -35,7 +35,7 @@ module _ {V : Type 0} (G : Group V) where
     laid-releases h w sum laid = one-release (λ r v. record { range = r; amount = v }) G meaning links links′ table table′ a b h w sum laid
 
     -- a range that can join does
-    pub laid-by : (o : Option Hung) (sum : V) → Cases o (Untouched links links′ table table′ a b) (λ h. Laid G meaning links links′ table table′ a b (h .leader .index) (h .under .index) sum) → 1024 ≤ length table → a < b → (Linked (joined links) a b → ⊥) → (releases-of G links′ (map meaning table′) ≡ record { range = record { low = a; high = b }; amount = sum } ∷ releases-of G links (map meaning table)) × (joined links′ ≡ record { low = a; high = b } ∷ joined links) × (length table′ ≡ length table)
+    pub laid-by : (o : Option Hung) (sum : V) → Cases o (Untouched links links′ table table′ a b) (λ h. Laid G meaning links links′ table table′ a b (h .leader .index) (h .under .index) sum) → 1024 ≤ length table → a < b → (Linked (joined links) a b → ⊥) → (releases-of G links′ (map meaning table′) ≡ record { range = record { low = a; high = b }; amount = sum } ∷ releases-of G links (map meaning table)) × ((h : ℕ) × (w : ℕ) × (v : V) × Laid G meaning links links′ table table′ a b h w v) × (length table′ ≡ length table)
     laid-by None sum u room range apart =
         absurd (⊎-elim (λ short. omega arith) (⊎-elim (λ back. omega arith) apart) (u .reason))
-    laid-by (Some h) sum laid room range apart = (laid-releases (h .leader .index) (h .under .index) sum laid, laid .made .first, laid .long)
+    laid-by (Some h) sum laid room range apart = (laid-releases (h .leader .index) (h .under .index) sum laid, (h .leader .index, h .under .index, sum, laid), laid .long)

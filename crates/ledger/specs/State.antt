@@ -14,6 +14,7 @@ use Rattle.rules.specs.Ordered.{Ordered}
 use Rattle.stores.specs.Log.{Log}
 use Rattle.stores.specs.Sums.{range-sum, All-kept, Lowest-lost}
 use Rattle.distances.specs.Distance.{amount, Between}
+use Rattle.distances.specs.Kept.{Laid}
 use Rattle.ledger.specs.declared.answer.Answer.{Answer}
 use Rattle.ledger.specs.declared.answer.Counts.{Counts}
 use Rattle.ledger.specs.Answers.{counted}
@@ -49,10 +50,10 @@ Queried G log rule links links′ table table′ counts counts′ steps steps′
     Asked G log rule (state-of G links table counts) (record { low = low; high = high; table = steps })
     (record { answer = answer; table = steps′; after = state-of G links′ table′ counts′ })
 
--- links and distances are just as they were, or the range joined
-abbrev pub Same-or-joined : {K : Type 0} → (links links′ : Links) (table table′ : List K) → Range → Type 0
-Same-or-joined links links′ table table′ r =
-    ((links′ ≡ links) × (table′ ≡ table)) ⊎ (joined links′ ≡ r ∷ joined links)
+-- links and distances are just as they were; or the range joined them with a sum, which changed two rows and one entry alone
+abbrev pub Same-or-joined : {K V : Type 0} → Group V → (K → V) → (links links′ : Links) (table table′ : List K) (low high : ℕ) → Type 0
+Same-or-joined {K} {V} G meaning links links′ table table′ low high =
+    ((links′ ≡ links) × (table′ ≡ table)) ⊎ ((h : ℕ) × (w : ℕ) × (sum : V) × Laid G meaning links links′ table table′ low high h w sum)
 
 -- What a free query does: its sum is released and joins, where every slot is kept; else its lowest lost slot is named, and nothing joins.
 abbrev pub Freed : {V : Type 0} → Group V → Log V → (links links′ : Links) (table table′ : List V) (low high : ℕ) → Answer V → Type 0

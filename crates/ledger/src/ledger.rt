@@ -7,6 +7,7 @@ mod query;
 
 use crate::answer::Counts;
 use crate::token::NewLog;
+pub use lifetime::open;
 use links::Links;
 
 // It can't be copied, and is let go by `close` alone. The distances of its boundaries stand beside it, over a lent table.

@@ -5,8 +5,11 @@ use Prim.Native.Nat.{ℕ}
 use lib.Chars.{codes}
 use Rattle.std.specs.declared.option.Option.{Option}
 use Rattle.std.specs.declared.option.Option.the-variants.{Some, None}
+use Rattle.std.specs.declared.result.Result.{Result}
+use Rattle.std.specs.declared.result.Result.the-variants.{Ok, Err}
 use Rattle.tracedump.specs.declared.request.KindName.{KindName}
 use Rattle.tracedump.specs.declared.request.KindName.the-variants.{Wh, Toggles, Dials}
+use Rattle.tracedump.specs.declared.request.Refusal.{Refusal}
 
 abbrev pub word-of : KindName → List ℕ
 word-of Wh = codes "wh"
@@ -17,3 +20,10 @@ word-of Dials = codes "dials"
 abbrev pub Named : List ℕ → Option KindName → Type 0
 Named word (Some kind) = word ≡ word-of kind
 Named word None = (kind : KindName) → word ≡ word-of kind → ⊥
+
+-- the kind that the first argument asks for, or why there is none
+abbrev pub Asked : Option (List ℕ) → Result KindName Refusal → Type 0
+Asked None (Ok kind) = ⊥
+Asked None (Err why) = why ≡ Refusal.NoKind
+Asked (Some word) (Ok kind) = word ≡ word-of kind
+Asked (Some word) (Err why) = (why ≡ Refusal.UnknownKind) × ((kind : KindName) → word ≡ word-of kind → ⊥)

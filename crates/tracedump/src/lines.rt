@@ -127,7 +127,8 @@ fn repacked_line<K: Kind>(
     packed: Packed<'_, K>,
     bytes: &[u8],
 ) -> Result<String, AllocError> {
-    let mut again = bytes.to_vec(heap)?;
+    // every byte begins other than it should end
+    let mut again = vec![in heap; 0xffu8; bytes.len()]?;
     let _ = repack::<K>(bytes, &mut again);
     let zeros = vec![in heap; 0u8; bytes.len()]?;
     let width = 1 + usize::from(K::byte_count());

@@ -3,12 +3,15 @@ ghost use mathlib.Core.Path.{_≡_};
 ghost use mathlib.Core.Bool.{cond};
 ghost use lib.Dec.{eqb, leb};
 ghost use Rattle.std.specs.declared.result.Result.the-variants.{Ok, Err};
-ghost use Rattle.tracedump.specs.Names.{Named};
+ghost use denote.Ref.{now};
+ghost use Rattle.std.specs.Of.String.{string-bytes};
+ghost use Rattle.std.specs.Options.{mapped};
+ghost use Rattle.tracedump.specs.Names.{Named, Asked};
 ghost use Rattle.tracedump.specs.declared.request.Refusal.the-variants.{NoInput, TooLong};
 use std::error::Error;
 use std::fmt;
 
-// A trace has at most 1 MiB: six years of quarter hours at five bytes a slot.
+// A trace has at most 1 MiB: just under six years of quarter hours at five bytes a slot.
 pub const MOST: usize = 1_048_576;
 
 #[derive(Clone, Copy, Debug, PartialEq, Eq)]
@@ -54,7 +57,7 @@ impl Stretch {
 }
 
 // Why the program does not look at its input.
-#[derive(Clone, Copy, Debug, PartialEq, Eq)]
+#[derive(Clone, Copy, PartialEq, Eq)]
 pub enum Refusal {
     NoKind,
     UnknownKind,
@@ -76,10 +79,20 @@ pub impl fmt::Display for Refusal as RefusalDisplay {
     }
 }
 
+// What `report` prints of an error: the same line.
+pub impl fmt::Debug for Refusal as RefusalDebug {
+    fn fmt<W: fmt::Write>(&self, f: &mut fmt::Formatter<W>) -> fmt::Result {
+        let refusal = *self;
+        write!(f, "{refusal}")
+    }
+}
+
 pub impl Error for Refusal as RefusalError {}
 
 // The kind that is asked for.
-pub fn kind_asked(word: Option<&String>) -> Result<KindName, Refusal> {
+pub fn kind_asked(word: Option<&String>) -> Result<KindName, Refusal>
+    ensures { λ r. ⌜ Asked (mapped (λ w. string-bytes (now w)) (word .entry)) r ⌝ }
+{
     let Some(word) = word else {
         return Err(Refusal::NoKind);
     };

@@ -11,11 +11,13 @@ ghost use Rattle.judgement.specs.Refusal.{Only-with, Shown};
 ghost use Rattle.stores.specs.Log.{meant};
 ghost use Rattle.links.specs.Joined.{joined};
 ghost use Rattle.links.specs.Linked.{Linked};
+ghost use Rattle.links.specs.Rings.{Acyclic};
 ghost use Rattle.ledger.specs.Answers.{counted, count};
 ghost use Rattle.ledger.specs.Machine.{range-fault};
 ghost use Rattle.ledger.specs.Truth.{Stays-true, One-outcome};
 ghost use Rattle.ledger.specs.State.{rule-of, valued-answer, state-of, Queried, Freed, Is-between, Settles, Responds, Same-or-joined};
 use super::Ledger;
+use crate::amounts::Amounts;
 use crate::answer::Answer;
 use crate::answer::Counts;
 use crate::answer::Fault;
@@ -92,7 +94,7 @@ fn release<K: Kind, S: Store<K>>(
     requires within { ⌜ b .index ≤ S·Store .log (now store) .slots ⌝ }
     requires room { ⌜ 1024 ≤ length (now (now distances .table)) ⌝ }
     ensures freed { λ r. ⌜ Freed (K·Kind .group) (meant (K·Kind .meaning) (S·Store .log (now (store .entry)))) (now (links .entry)) (now (links .exit)) (map (K·Kind .meaning) (now (now (distances .entry) .table))) (map (K·Kind .meaning) (now (now (distances .exit) .table))) (a .index) (b .index) (valued-answer (K·Kind .meaning) r) ⌝ }
-    ensures others { λ _. ⌜ Same-or-joined (now (links .entry)) (now (links .exit)) (now (now (distances .entry) .table)) (now (now (distances .exit) .table)) (record { low = a .index; high = b .index }) ⌝ }
+    ensures others { λ _. ⌜ Same-or-joined (K·Kind .group) (K·Kind .meaning) (now (links .entry)) (now (links .exit)) (now (now (distances .entry) .table)) (now (now (distances .exit) .table)) (a .index) (b .index) ⌝ }
     ensures long { λ _. ⌜ length (now (now (distances .exit) .table)) ≡ length (now (now (distances .entry) .table)) ⌝ }
     ensures stays { λ _. ⌜ name (now (distances .exit) .table) ≡ name (now (distances .entry) .table) ⌝ }
 {
@@ -152,7 +154,7 @@ fn settle<K: Kind, S: Store<K>, R: Rule>(
     requires room { ⌜ 1024 ≤ length (now (now distances .table)) ⌝ }
     requires steps { ⌜ 1023 ≤ length (now chain) ⌝ }
     ensures settles { λ r. ⌜ Settles (K·Kind .group) (meant (K·Kind .meaning) (S·Store .log (now (store .entry)))) (rule-of (R·Rule .protects (now (rule .entry))) (R·Rule .ordered (now (rule .entry)))) (now (links .entry)) (now (links .exit)) (map (K·Kind .meaning) (now (now (distances .entry) .table))) (map (K·Kind .meaning) (now (now (distances .exit) .table))) (now (chain .entry)) (now (chain .exit)) (a .index) (b .index) (valued-answer (K·Kind .meaning) r) ⌝ }
-    ensures others { λ _. ⌜ Same-or-joined (now (links .entry)) (now (links .exit)) (now (now (distances .entry) .table)) (now (now (distances .exit) .table)) (record { low = a .index; high = b .index }) ⌝ }
+    ensures others { λ _. ⌜ Same-or-joined (K·Kind .group) (K·Kind .meaning) (now (links .entry)) (now (links .exit)) (now (now (distances .entry) .table)) (now (now (distances .exit) .table)) (a .index) (b .index) ⌝ }
     ensures long { λ _. ⌜ length (now (now (distances .exit) .table)) ≡ length (now (now (distances .entry) .table)) ⌝ }
     ensures unfull { λ r. ⌜ (r ≡ Answer.Refused Fault.Full → ⊥) ⌝ }
     ensures stays { λ _. ⌜ name (now (distances .exit) .table) ≡ name (now (distances .entry) .table) ⌝ }
@@ -202,7 +204,7 @@ fn answer<K: Kind, S: Store<K>, R: Rule>(
     chain: &mut [Step],
 ) -> Answer<K>
     ensures responds { λ r. ⌜ Responds (K·Kind .group) (meant (K·Kind .meaning) (S·Store .log (now (store .entry)))) (rule-of (R·Rule .protects (now (rule .entry))) (R·Rule .ordered (now (rule .entry)))) (now (links .entry)) (now (links .exit)) (map (K·Kind .meaning) (now (now (distances .entry) .table))) (map (K·Kind .meaning) (now (now (distances .exit) .table))) (now (chain .entry)) (now (chain .exit)) low high (valued-answer (K·Kind .meaning) r) ⌝ }
-    ensures others { λ _. ⌜ Same-or-joined (now (links .entry)) (now (links .exit)) (now (now (distances .entry) .table)) (now (now (distances .exit) .table)) (record { low = low; high = high }) ⌝ }
+    ensures others { λ _. ⌜ Same-or-joined (K·Kind .group) (K·Kind .meaning) (now (links .entry)) (now (links .exit)) (now (now (distances .entry) .table)) (now (now (distances .exit) .table)) low high ⌝ }
     ensures long { λ _. ⌜ length (now (now (distances .exit) .table)) ≡ length (now (now (distances .entry) .table)) ⌝ }
     ensures unfull { λ r. ⌜ (r ≡ Answer.Refused Fault.Full → ⊥) ⌝ }
     ensures stays { λ _. ⌜ name (now (distances .exit) .table) ≡ name (now (distances .entry) .table) ⌝ }
@@ -217,23 +219,32 @@ impl Ledger {
     // Asks for the sum of the slots `low` to `high` - 1: tells it, or says why not. A refusal's chain is written into the first steps of `chain`.
     pub fn query<K: Kind, S: Store<K>, R: Rule>(
         &mut self,
-        distances: &mut Distances<'_, K>,
+        amounts: &mut Amounts<'_, K>,
         store: &S,
         rule: &R,
         low: u32,
         high: u32,
         chain: &mut [Step],
     ) -> Answer<K>
-        ensures asked { λ r. ⌜ Queried (K·Kind .group) (meant (K·Kind .meaning) (S·Store .log (now (store .entry)))) (rule-of (R·Rule .protects (now (rule .entry))) (R·Rule .ordered (now (rule .entry)))) (now (self .entry) .links) (now (self .exit) .links) (map (K·Kind .meaning) (now (now (distances .entry) .table))) (map (K·Kind .meaning) (now (now (distances .exit) .table))) (now (self .entry) .counts) (now (self .exit) .counts) (now (chain .entry)) (now (chain .exit)) low high (valued-answer (K·Kind .meaning) r) ⌝ }
-        ensures faithful { λ r. ⌜ Stays-true (K·Kind .group) (meant (K·Kind .meaning) (S·Store .log (now (store .entry)))) (rule-of (R·Rule .protects (now (rule .entry))) (R·Rule .ordered (now (rule .entry)))) (state-of (K·Kind .group) (now (self .entry) .links) (map (K·Kind .meaning) (now (now (distances .entry) .table))) (now (self .entry) .counts)) (state-of (K·Kind .group) (now (self .exit) .links) (map (K·Kind .meaning) (now (now (distances .exit) .table))) (now (self .exit) .counts)) (record { low = low; high = high; table = now (chain .entry) }) (now (chain .exit)) (valued-answer (K·Kind .meaning) r) ⌝ }
+        ensures asked { λ r. ⌜ Queried (K·Kind .group) (meant (K·Kind .meaning) (S·Store .log (now (store .entry)))) (rule-of (R·Rule .protects (now (rule .entry))) (R·Rule .ordered (now (rule .entry)))) (now (self .entry) .links) (now (self .exit) .links) (map (K·Kind .meaning) (now (now (amounts .entry) .distances .table))) (map (K·Kind .meaning) (now (now (amounts .exit) .distances .table))) (now (self .entry) .counts) (now (self .exit) .counts) (now (chain .entry)) (now (chain .exit)) low high (valued-answer (K·Kind .meaning) r) ⌝ }
+        ensures faithful { λ r. ⌜ Stays-true (K·Kind .group) (meant (K·Kind .meaning) (S·Store .log (now (store .entry)))) (rule-of (R·Rule .protects (now (rule .entry))) (R·Rule .ordered (now (rule .entry)))) (state-of (K·Kind .group) (now (self .entry) .links) (map (K·Kind .meaning) (now (now (amounts .entry) .distances .table))) (now (self .entry) .counts)) (state-of (K·Kind .group) (now (self .exit) .links) (map (K·Kind .meaning) (now (now (amounts .exit) .distances .table))) (now (self .exit) .counts)) (record { low = low; high = high; table = now (chain .entry) }) (now (chain .exit)) (valued-answer (K·Kind .meaning) r) ⌝ }
         ensures exact { λ _. ⌜ One-outcome (K·Kind .group) ⌝ }
-        ensures others { λ _. ⌜ Same-or-joined (now (self .entry) .links) (now (self .exit) .links) (now (now (distances .entry) .table)) (now (now (distances .exit) .table)) (record { low = low; high = high }) ⌝ }
-        ensures stays { λ _. ⌜ name (now (distances .exit) .table) ≡ name (now (distances .entry) .table) ⌝ }
+        ensures acyclic { λ _. ⌜ Acyclic (joined (now (self .entry) .links)) ⌝ }
+        ensures others { λ _. ⌜ Same-or-joined (K·Kind .group) (K·Kind .meaning) (now (self .entry) .links) (now (self .exit) .links) (now (now (amounts .entry) .distances .table)) (now (now (amounts .exit) .distances .table)) low high ⌝ }
+        ensures stays { λ _. ⌜ name (now (amounts .exit) .distances .table) ≡ name (now (amounts .entry) .distances .table) ⌝ }
     {
         if self.counts.total() >= MOST {
             return Answer::Refused(Fault::Full);
         }
-        let answer = answer(&mut self.links, distances, store, rule, low, high, chain);
+        let answer = answer(
+            &mut self.links,
+            &mut amounts.distances,
+            store,
+            rule,
+            low,
+            high,
+            chain,
+        );
         self.counts = self.counts.add(&answer);
         answer
     }

@@ -3,6 +3,7 @@ use mathlib.Core.List.{map}
 use mathlib.Core.Logic.{inl}
 use native.Mathlib.Omega.{arith}
 use lib.ListN.{length, length-map}
+use Rattle.links.proofs.Chained.{acyclic}
 use Rattle.stores.specs.Log.{meant}
 use Rattle.ledger.specs.Answers.{counted}
 use Rattle.ledger.specs.State.{rule-of, valued-answer}
@@ -16,11 +17,12 @@ returns-then-total-ge-MOST g c =
     let self = c .args .self .now in
     let log = meant (g .K·Kind .meaning) (g .S·Store .log (c .args .store .now)) in
     let rule = rule-of (g .R·Rule .protects (c .args .rule .now)) (g .R·Rule .ordered (c .args .rule .now)) in
-    let asked = queried-full (g .K·Kind .group) log rule (self .links) (map (g .K·Kind .meaning) (c .args .distances .now .table .now)) (c .args .chain .now) (c .args .low) (c .args .high) (self .counts) (omega arith) (self .within) in
+    let asked = queried-full (g .K·Kind .group) log rule (self .links) (map (g .K·Kind .meaning) (c .args .amounts .now .distances .table .now)) (c .args .chain .now) (c .args .low) (c .args .high) (self .counts) (omega arith) (self .within) in
     record {
       asked = asked;
       faithful = stays-true (g .K·Kind .group) log rule _ _ _ asked;
       exact = one-outcome (g .K·Kind .group);
+      acyclic = acyclic (self .links);
       others = inl (refl, refl);
       stays = refl;
     }
@@ -30,7 +32,7 @@ returns g c =
     let self = c .args .self .now in
     let log = meant (g .K·Kind .meaning) (g .S·Store .log (c .args .store .now)) in
     let rule = rule-of (g .R·Rule .protects (c .args .rule .now)) (g .R·Rule .ordered (c .args .rule .now)) in
-    let table = c .args .distances .now .table .now in
+    let table = c .args .amounts .now .distances .table .now in
     let table′ = c .answer-answer .last .distances .table .now in
     let r = c .answer-answer .result in
     let told = c .answer-answer .ensures in
@@ -42,6 +44,7 @@ returns g c =
       asked = asked;
       faithful = stays-true (g .K·Kind .group) log rule _ _ _ asked;
       exact = one-outcome (g .K·Kind .group);
+      acyclic = acyclic (self .links);
       others = told .others;
       stays = told .stays;
     }

@@ -24,7 +24,7 @@ returns-in-Ok g c =
     (λ i. range-fault (sym slots i) (sym many i) (length (c .args .chain .now)) (c .args .low) (c .args .high)) ∙ c .in-Ok .ensures tt .fault in
     record {
       responds = responds-settled (g .K·Kind .group) log rule (c .args .links .now) (c .settle .last .links) (map (g .K·Kind .meaning) table) (map (g .K·Kind .meaning) (c .settle .last .distances .table .now)) (c .args .chain .now) (c .settle .last .chain) (c .args .low) (c .args .high) (c .in-Ok .ends .0 .index) (c .in-Ok .ends .1 .index) (valued-answer (g .K·Kind .meaning) (c .settle .result)) (ends .0) (ends .1) none (c .settle .ensures .settles);
-      others = subst (λ y. Same-or-joined (c .args .links .now) (c .settle .last .links) table (c .settle .last .distances .table .now) (record { low = c .args .low; high = y })) (ends .1) (subst (λ x. Same-or-joined (c .args .links .now) (c .settle .last .links) table (c .settle .last .distances .table .now) (record { low = x; high = c .in-Ok .ends .1 .index })) (ends .0) (c .settle .ensures .others));
+      others = subst (λ y. Same-or-joined (g .K·Kind .group) (g .K·Kind .meaning) (c .args .links .now) (c .settle .last .links) table (c .settle .last .distances .table .now) (c .args .low) y) (ends .1) (subst (λ x. Same-or-joined (g .K·Kind .group) (g .K·Kind .meaning) (c .args .links .now) (c .settle .last .links) table (c .settle .last .distances .table .now) x (c .in-Ok .ends .1 .index)) (ends .0) (c .settle .ensures .others));
       long = c .settle .ensures .long;
       unfull = c .settle .ensures .unfull;
       stays = c .settle .ensures .stays;
