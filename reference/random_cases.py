@@ -1,16 +1,32 @@
-"""Cases of the direct format by a seed: what a script can say, and what it cannot.
-
-Beyond scripts lie logs that are too long, tables that are too short, counts that are full, a rule and a slot count of
-its own for each try, and a ledger whose rule and store change on the way.
-"""
+"""Cases of the direct format by a seed, logs that are too long, tables that are too short and full counts among them."""
 
 from __future__ import annotations
 
 from random import Random
 
 from machine import DIALS, KINDS, MOST_SLOTS, Kind
-from random_scripts import asked_range, chosen_kind, part
-from script import LARGEST_NUMBER
+
+LARGEST_NUMBER = (1 << 32) - 1
+
+
+def chosen_kind(rng: Random) -> Kind:
+    return rng.choice(list(KINDS.values()))
+
+
+def part(rng: Random, size: int) -> int:
+    """A number below the size: at its limits, small, or any."""
+    return rng.choice([0, 1, size - 1, rng.randrange(9), rng.randrange(9), rng.randrange(size), rng.randrange(size)])
+
+
+def asked_range(rng: Random, slots: int) -> tuple[int, int]:
+    """Mostly a range of the log; now and then one that is turned back."""
+    chance = rng.random()
+    if chance < 0.04:
+        return rng.randint(0, slots + 2), rng.randint(0, slots + 2)
+    if chance < 0.06:
+        return rng.choice([0, slots, LARGEST_NUMBER]), rng.choice([0, slots + 1, LARGEST_NUMBER])
+    low, high = sorted((rng.randint(0, slots), rng.randint(0, slots)))
+    return (low, high) if low < high else (0, slots)
 
 MARKS = [1] * 40 + [0, 2, 255]
 
