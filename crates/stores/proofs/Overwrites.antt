@@ -41,7 +41,7 @@ length-overwritten bytes at row fits =
     omega arith
 
 -- the record of a lower slot ends where that of a higher one begins, or before
-apart : (i j w : ℕ) → i < j → i * w + w ≤ j * w
+pub apart : (i j w : ℕ) → i < j → i * w + w ≤ j * w
 apart i j w less =
     let most : suc i * w ≤ j * w = mul-le-mul-right w (omega arith) in
     let more = suc-mul i w in
@@ -81,6 +81,13 @@ module _ {V : Type 0} (G : Group V) (c : Codec 256 V) where
         let after = apart slot i (width c) more in
         ap (take (width c)) (drop-putMid at (width c) bytes row p (omega arith) below long)))
         (cases-order i slot)
+
+    -- bytes past the record stay
+    pub past : (p : ℕ) → slot * width c + width c ≤ p → drop p (overwritten bytes (slot * width c) row) ≡ drop p bytes
+    past p after =
+        let at = slot * width c in
+        let below : at ≤ length bytes = omega arith in
+        ap (drop p) (sym (putMid-overwritten at (width c) bytes row long)) ∙ drop-putMid at (width c) bytes row p after below long
 
   lost-mark : (o : Option V) (byte : ℕ) → byte ≡ 0 → mark-with o byte ≡ mark.Lost
   lost-mark None byte e = refl

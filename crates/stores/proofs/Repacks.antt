@@ -23,7 +23,7 @@ use Rattle.stores.specs.declared.store.Reading.the-variants.{Value, Missing, O
 use Rattle.stores.specs.Log.{Log, mark-of, told, answer, valued}
 use Rattle.stores.specs.Packing.{packed-record, overwritten, packed, valued-slot, slot-of, Repacked}
 use Rattle.stores.specs.Stores.{packed-log, width, record-bytes, record-value, record-mark, record-reading, mark-with}
-use Rattle.stores.proofs.Overwrites.{here, elsewhere, length-record, length-overwritten}
+use Rattle.stores.proofs.Overwrites.{apart, here, elsewhere, past, length-record, length-overwritten}
 use Rattle.stores.proofs.Records.{record-fits, answer-inside}
 
 pub slot-of-valued : {R V : Type 0} (f : R → V) (r : Reading R) → valued-slot f (slot-of r) ≡ slot-of (valued f r)
@@ -31,11 +31,12 @@ slot-of-valued f (Value x) = refl
 slot-of-valued f Missing = refl
 slot-of-valued f Outside = refl
 
-module _ {V : Type 0} (G : Group V) (c : Codec 256 V) (old : List ℕ) where
+module _ {V : Type 0} (G : Group V) (c : Codec 256 V) (old before : List ℕ) where
   -- the slots below n are packed as they were read
   pub record Sofar (new : List ℕ) (n : ℕ) : Type 0 where
     pub long : length new ≡ length old
     pub each : (i : ℕ) → i < n → record-bytes c new i ≡ packed-record c (slot-of (answer (packed-log G c old) i))
+    pub rest : drop (length old / width c * width c) new ≡ drop (length old / width c * width c) before
 
   pub sofar-more : (new : List ℕ) (n : ℕ) (what : Slot V) → Sofar new n → n < length old / width c → what ≡ slot-of (answer (packed-log G c old) n) → Sofar (packed c new n what) (n + 1)
   sofar-more new n what so within is =
@@ -55,6 +56,7 @@ module _ {V : Type 0} (G : Group V) (c : Codec 256 V) (old : List ℕ) where
             let now : record-bytes c (overwritten new (n * width c) row) n ≡ packed-record c (slot-of (answer (packed-log G c old) n)) = here G c new n row same fits ∙ ap (packed-record c) is in
             subst (λ k. record-bytes c (overwritten new (n * width c) row) k ≡ packed-record c (slot-of (answer (packed-log G c old) k))) (sym at) now)
             (cases-lt i n);
+        rest = past G c new n row same fits (length old / width c * width c) (apart n (length old / width c) (width c) within) ∙ so .rest;
       })
 
   -- a kept record is its mark byte 1 and the bytes of its value
@@ -80,7 +82,7 @@ module _ {V : Type 0} (G : Group V) (c : Codec 256 V) (old : List ℕ) where
       let d = length-drop (i * width c) old in
       rw (getD-drop 1 (take (width c) row) k 0, getD-take (width c) row (1 + k) 0 (omega arith), getD-drop (i * width c) old (1 + k) 0) (fits _ (omega arith))
 
-  pub repacked : (new : List ℕ) → Within 256 old → Sofar new (length old / width c) → Repacked G c old new
+  pub repacked : (new : List ℕ) → Within 256 old → Sofar new (length old / width c) → Repacked G c old before new
   repacked new fits so = record {
     long = so .long;
     kept = λ i within is.
@@ -96,4 +98,5 @@ module _ {V : Type 0} (G : Group V) (c : Codec 256 V) (old : List ℕ) where
         let row = record-bytes c old i in
         let told-lost : answer (packed-log G c old) i ≡ Missing = sym (answer-inside (packed-log G c old) i within) ∙ ap (λ m. told m (record-reading G c row)) is in
         so .each i within ∙ ap (λ r. packed-record c (slot-of r)) told-lost;
+    rest = so .rest;
   }

@@ -59,8 +59,10 @@ slot-of (Value x) = Kept x
 slot-of Missing = Lost
 slot-of Outside = Lost
 
--- every slot packed again as it was read: a kept slot's record has the same bytes, a lost one's is all zeros
-pub record Repacked {V : Type 0} (G : Group V) (c : Codec 256 V) (old new : List ℕ) : Type 0 where
+-- every slot of old packed again as it was read, over what the target held before: a kept slot's record has the same bytes, a lost one's is
+-- all zeros, and bytes left over stay
+pub record Repacked {V : Type 0} (G : Group V) (c : Codec 256 V) (old before new : List ℕ) : Type 0 where
   pub long : length new ≡ length old
   pub kept : (i : ℕ) → i < length old / width c → packed-log G c old .mark i ≡ mark.Kept → record-bytes c new i ≡ record-bytes c old i
   pub lost : (i : ℕ) → i < length old / width c → packed-log G c old .mark i ≡ mark.Lost → record-bytes c new i ≡ replicate (width c) 0
+  pub rest : drop (length old / width c * width c) new ≡ drop (length old / width c * width c) before

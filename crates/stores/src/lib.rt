@@ -1,5 +1,6 @@
 // Stores of readings: what each slot of a log holds, kept or lost.
 mod lists;
+mod make;
 mod packed;
 mod packing;
 mod plain;
@@ -9,6 +10,7 @@ mod window;
 
 pub use lists::Lists;
 pub use lists::list;
+pub use make::windowed;
 pub use packed::Packed;
 pub use packed::PackedStore;
 pub use packing::BeyondBytes;

@@ -19,7 +19,7 @@ pub struct Lists<K> {
     marks: Vec<u8>,
 }
 
-impl<K> Lists<K> {
+impl<K: Kind> Lists<K> {
     // The plain store over the two lists.
     pub fn plain(&self) -> Plain<'_, K>
         ensures values { λ r. ⌜ now (r .values) ≡ vec-items (now (self .entry) .values) ⌝ }

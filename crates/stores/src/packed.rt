@@ -16,19 +16,8 @@ use std::marker::PhantomData;
 
 #[derive(Clone, Copy, Debug)]
 pub struct Packed<'a, K> {
-    bytes: &'a [u8],
-    kind: PhantomData<K>,
-}
-
-impl<'a, K> Packed<'a, K> {
-    pub fn new(bytes: &'a [u8]) -> Packed<'a, K>
-        ensures { λ r. ⌜ now (r .bytes) ≡ now (bytes .entry) ⌝ }
-    {
-        Packed {
-            bytes,
-            kind: PhantomData,
-        }
-    }
+    pub(crate) bytes: &'a [u8],
+    pub(crate) kind: PhantomData<K>,
 }
 
 // Where the record of a slot begins, if it lies whole within `len` bytes.

@@ -74,7 +74,7 @@ fn as_read<K>(reading: Reading<K>) -> Slot<K>
 
 // Reads each slot of `from` and packs it into `to`, which has as many bytes; otherwise `to` is left as it was.
 pub fn repack<K: Kind>(from: &[u8], to: &mut [u8]) -> Result<(), WrongLength>
-    ensures { λ r. ⌜ Cases r (λ _. Repacked (K·Kind .group) (K·Kind .bytes) (now (from .entry)) (now (to .exit))) (λ _. (length (now (to .entry)) ≡ length (now (from .entry)) → ⊥) × (now (to .exit) ≡ now (to .entry))) ⌝ }
+    ensures { λ r. ⌜ Cases r (λ _. Repacked (K·Kind .group) (K·Kind .bytes) (now (from .entry)) (now (to .entry)) (now (to .exit))) (λ _. (length (now (to .entry)) ≡ length (now (from .entry)) → ⊥) × (now (to .exit) ≡ now (to .entry))) ⌝ }
 {
     if to.len() != from.len() {
         return Err(WrongLength);

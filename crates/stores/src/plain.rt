@@ -11,17 +11,8 @@ use kinds::Kind;
 
 #[derive(Clone, Copy, Debug)]
 pub struct Plain<'a, K> {
-    values: &'a [K],
-    marks: &'a [u8],
-}
-
-impl<'a, K> Plain<'a, K> {
-    pub fn new(values: &'a [K], marks: &'a [u8]) -> Plain<'a, K>
-        ensures values { λ r. ⌜ now (r .values) ≡ now (values .entry) ⌝ }
-        ensures marks { λ r. ⌜ now (r .marks) ≡ now (marks .entry) ⌝ }
-    {
-        Plain { values, marks }
-    }
+    pub(crate) values: &'a [K],
+    pub(crate) marks: &'a [u8],
 }
 
 pub impl<K: Kind> Store<K> for Plain<'_, K> as PlainStore {
