@@ -2,6 +2,7 @@
 use crate::asking::READING;
 use crate::asking::UNUSED;
 use crate::asking::asked;
+use kinds::WhKind;
 use std::test::*;
 use stores::Plain;
 
