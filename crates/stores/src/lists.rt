@@ -29,7 +29,7 @@ impl<K: Kind> Lists<K> {
     }
 }
 
-// A value and a mark byte that answer as a slot of a store did; a lost slot is listed as zero.
+// A value and a mark byte that answer as a slot of a store did.
 fn listed<K: Kind>(reading: Reading<K>) -> (K, u8)
     ensures { λ r. ⌜ told (mark-of (r .1)) (K·Kind .meaning (r .0)) ≡ kept-or-missing (valued (K·Kind .meaning) reading) ⌝ }
 {

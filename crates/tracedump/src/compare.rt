@@ -19,7 +19,7 @@ fn same<K: Kind>(a: Reading<K>, b: Reading<K>) -> bool
     }
 }
 
-// The first slot of `part` that does not answer as the slot `start` further on of `whole`.
+// A slot of `part` that does not answer as the slot `start` further on of `whole`, if there is one.
 pub fn difference<K: Kind, S: Store<K>, T: Store<K>>(
     whole: &S,
     start: usize,
