@@ -62,6 +62,16 @@ def ghostly(text):
         yield begin, at
 
 
+def foreign(text):
+    """The names that a file imports from elsewhere than this repository's crates: they are not its own."""
+    found = set()
+    for m in re.finditer(r"\buse ([^\s{};]+)\{([^}]*)\}", text):
+        parts = m[1].split(".")
+        if not (parts[0] == "Rattle" and len(parts) > 1 and os.path.isdir(os.path.join("crates", parts[1]))):
+            found |= {w.split(" as ")[-1].strip() for w in m[2].split(",")}
+    return found
+
+
 def respelled(text, names):
     out, last = [], ""
     for m in TOKEN.finditer(text):
@@ -107,12 +117,14 @@ def main():
         return
     for path in files():
         text = open(path, encoding="utf-8").read()
+        others = foreign(text)
+        mine = {old: new for old, new in names.items() if old not in others}
         if path.endswith(".antt"):
-            new = respelled(text, names)
+            new = respelled(text, mine)
         else:
             new, at = "", 0
             for begin, end in ghostly(text):
-                new += text[at:begin] + respelled(text[begin:end], names)
+                new += text[at:begin] + respelled(text[begin:end], mine)
                 at = end
             new += text[at:]
         if new != text:

@@ -1,6 +1,6 @@
 -- The four counts stay within their limit. Assumes nothing.
 use Rattle.std.proofs.Common.{◌≡◌, ℕ, ◌≤◌, eqb, ◌⊎◌, List, Some, inl, inr, arith}
-use Rattle.std.proofs.lemmas.Bool.{cases_Bool, eqb-false, cond_true}
+use Rattle.std.proofs.lemmas.Bool.{cases_Bool, eqb-false, cond-true}
 use Rattle.ledger.specs.declared.answer.Fault.{Fault}
 use Rattle.ledger.specs.declared.answer.Answer.{Answer}
 use Rattle.ledger.specs.declared.answer.Counts.{Counts}
@@ -19,7 +19,7 @@ not_full log s q w = eqb-false (counted s.counts) 65535 (passed (eqb (counted s.
 full_or_not : {V : Type 0} (log : Log V) (s : Ledger V) (q : Query) (f : Fault) → fault s log.slots q ≡ Some f → (f ≡ Fault.Full) ⊎ (counted s.counts ≡ 65535 → ⊥)
 full_or_not log s q f e =
     elim (cases_Bool (eqb (counted s.counts) 65535)) [
-      | inl y ↦ (let full : fault s log.slots q ≡ Some Fault.Full = cond_true (eqb (counted s.counts) 65535) (Some Fault.Full) _ y in inl (cc))
+      | inl y ↦ (let full : fault s log.slots q ≡ Some Fault.Full = cond-true (eqb (counted s.counts) 65535) (Some Fault.Full) _ y in inl (cc))
       | inr n ↦ inr (eqb-false (counted s.counts) 65535 n)
     ]
 

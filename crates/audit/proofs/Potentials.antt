@@ -1,6 +1,6 @@
 -- Readings made from a potential: what is alike between linked boundaries, and any sum between unlinked ones. Assumes nothing.
 use Rattle.std.proofs.Common.{◌≡◌, ℕ, zero, suc, ◌+◌, ◌-◌, ◌≤◌, cond, List, sym, refl, ap, ◌∙◌, inl, inr, add-zero, add-suc, arith}
-use Rattle.std.proofs.lemmas.Bool.{cond_true, cond-false}
+use Rattle.std.proofs.lemmas.Bool.{cond-true, cond-false}
 use Rattle.links.specs.declared.step.Range.{Range}
 use Rattle.links.specs.Linked.{Listed, Linked}
 use Rattle.links.proofs.Labels.{linked_trans, linked_sym, linked_range, linked?, linked_true, linked_false, linked_cases}
@@ -91,7 +91,7 @@ module _ {V : Type 0} (G : Group V) where
 
   lift_in : (js : List Range) (j : ℕ) (v : V) (k : ℕ) → Linked js k j → lift js j v k ≡ v
   unfolding lift
-  lift_in js j v k p = cond_true (linked? js k j) v G.zero (linked_true js k j p)
+  lift_in js j v k p = cond-true (linked? js k j) v G.zero (linked_true js k j p)
 
   lift_out : (js : List Range) (j : ℕ) (v : V) (k : ℕ) → (Linked js k j → ⊥) → lift js j v k ≡ G.zero
   unfolding lift

@@ -1,6 +1,6 @@
 -- The search across two sets finds the first protected pair, or there is none. Assumes nothing.
 use Rattle.std.proofs.Common.{◌≡◌, ℕ, zero, suc, ◌+◌, ◌<◌, ◌≤◌, Bool, true, false, cond, eqb, ◌⊎◌, List, [], ◌∷◌, length, get_or, Some, None, Option, sym, refl, ap, ◌∙◌, subst, inl, inr, arith}
-use Rattle.std.proofs.lemmas.Bool.{cases_eq, cases_Bool, eq-eqb, ne_eqb, cond_true, cond-false, both_ways}
+use Rattle.std.proofs.lemmas.Bool.{cases_eq, cases_Bool, eq-eqb, ne_eqb, cond-true, cond-false, both_ways}
 use Rattle.links.specs.declared.step.Range.{Range}
 use Rattle.judgement.specs.Search.{places, first_yes, with_low, pair_across}
 
@@ -56,11 +56,11 @@ first_found says x (l ∷ ls) n =
     by : (l ≡ x) ⊎ (l ≡ x → ⊥) → (says n ≡ true) ⊎ (says n ≡ false) → First says x ls (suc n) (first_yes says (places x ls (suc n)))
         → Goal (cond (eqb l x) (n ∷ places x ls (suc n)) (places x ls (suc n)))
     by (inl e) (inl y) f =
-        subst Goal (sym (cond_true (eqb l x) _ _ (eq-eqb l x e)))
-        (subst (First says x (l ∷ ls) n) (sym (cond_true (says n) (Some n) (first_yes says (places x ls (suc n))) y))
+        subst Goal (sym (cond-true (eqb l x) _ _ (eq-eqb l x e)))
+        (subst (First says x (l ∷ ls) n) (sym (cond-true (says n) (Some n) (first_yes says (places x ls (suc n))) y))
         (inl (refl, e), y, (λ k h _. holds_from x (l ∷ ls) n k h)))
     by (inl e) (inr o) f =
-        subst Goal (sym (cond_true (eqb l x) _ _ (eq-eqb l x e)))
+        subst Goal (sym (cond-true (eqb l x) _ _ (eq-eqb l x e)))
         (subst (First says x (l ∷ ls) n) (sym (cond-false (says n) (Some n) (first_yes says (places x ls (suc n))) o))
         (first_lift says x l ls n (first_yes says (places x ls (suc n))) (λ _. o) f))
     by (inr ne) _ f =
@@ -165,11 +165,11 @@ pair_found says x y ne (l ∷ ls) n = by (cases_eq l x) (cases_eq l y) (pair_fou
     by : (l ≡ x) ⊎ (l ≡ x → ⊥) → (l ≡ y) ⊎ (l ≡ y → ⊥) → Pair says x y ls (suc n) Rest
         → Pair says x y (l ∷ ls) n (cond (eqb l x) (Beside y) (cond (eqb l y) (Beside x) Rest))
     by (inl e) _ p =
-        subst (Pair says x y (l ∷ ls) n) (sym (cond_true (eqb l x) _ _ (eq-eqb l x e)))
+        subst (Pair says x y (l ∷ ls) n) (sym (cond-true (eqb l x) _ _ (eq-eqb l x e)))
         (head_found says x y l ls n (first_yes (says n) (places y ls (suc n))) Rest ne e (first_found (says n) y ls (suc n)) p)
     by (inr a) (inl e) p =
         subst (Pair says x y (l ∷ ls) n)
-        (sym (cond-false (eqb l x) (Beside y) _ (ne_eqb l x a) ∙ cond_true (eqb l y) (Beside x) Rest (eq-eqb l y e)))
+        (sym (cond-false (eqb l x) (Beside y) _ (ne_eqb l x a) ∙ cond-true (eqb l y) (Beside x) Rest (eq-eqb l y e)))
         (pair_swap says y x (l ∷ ls) n (Beside x)
         (head_found says y x l ls n (first_yes (says n) (places x ls (suc n))) Rest (λ z. ne (sym z)) e (first_found (says n) x ls (suc n)) (pair_swap says x y ls (suc n) Rest p)))
     by (inr a) (inr b) p =

@@ -1,7 +1,7 @@
 -- The pairs across two sets, by two ascending lists of members that are gone through together. Assumes nothing.
 use Rattle.std.proofs.Common.{◌≡◌, ℕ, zero, suc, ◌+◌, ◌-◌, ◌<◌, ◌≤◌, Bool, cond, eqb, ◌⊎◌, List, [], ◌∷◌, length, get_or, take, drop, Some, None, Option, sym, refl, ap, ◌∙◌, subst, inl, inr, ⊎_elim, arith}
 use Rattle.std.proofs.lemmas.List.{drop_more}
-use Rattle.std.proofs.lemmas.Bool.{cases_eq, eq-eqb, ne_eqb, cond_true, cond-false}
+use Rattle.std.proofs.lemmas.Bool.{cases_eq, eq-eqb, ne_eqb, cond-true, cond-false}
 use Rattle.links.specs.declared.step.Range.{Range}
 use Rattle.judgement.specs.Search.{places, first_yes, with_low, pair_across}
 use Rattle.judgement.proofs.Turns.{places_here, places_later, places_over, pair_neither, passed_x, passed_y}
@@ -18,7 +18,7 @@ unfolding places
 places_from z [] n a ps e = absurd (some_none a ps (sym e))
 places_from z (v ∷ l) n a ps e =
     ⊎_elim
-    (λ (h : v ≡ z). let q = heads n a _ ps (sym (cond_true (eqb v z) _ _ (eq-eqb v z h)) ∙ e) in omega arith)
+    (λ (h : v ≡ z). let q = heads n a _ ps (sym (cond-true (eqb v z) _ _ (eq-eqb v z h)) ∙ e) in omega arith)
     (λ (h : v ≡ z → ⊥). let q = places_from z l (suc n) a ps (sym (cond-false (eqb v z) _ _ (ne_eqb v z h)) ∙ e) in omega arith)
     (cases_eq v z)
 
@@ -35,14 +35,14 @@ module _ (says : ℕ → ℕ → Bool) (x y : ℕ) where
   none_x [] n e = refl
   none_x (v ∷ l) n e =
       ⊎_elim
-      (λ (h : v ≡ x). absurd (some_none n _ (sym (cond_true (eqb v x) _ _ (eq-eqb v x h)) ∙ e)))
+      (λ (h : v ≡ x). absurd (some_none n _ (sym (cond-true (eqb v x) _ _ (eq-eqb v x h)) ∙ e)))
       (λ (h : v ≡ x → ⊥).
       let rest : places x l (suc n) ≡ [] = sym (cond-false (eqb v x) _ _ (ne_eqb v x h)) ∙ e in
       let more = none_x l (suc n) rest in
       cond-false (eqb v x) _ _ (ne_eqb v x h)
       ∙ ⊎_elim
       (λ (k : v ≡ y).
-      cond_true (eqb v y) _ _ (eq-eqb v y k) ∙ (ap (λ (ms : List ℕ). with_low n (first_yes (says n) ms) (pair_across says x y l (suc n))) rest ∙ more))
+      cond-true (eqb v y) _ _ (eq-eqb v y k) ∙ (ap (λ (ms : List ℕ). with_low n (first_yes (says n) ms) (pair_across says x y l (suc n))) rest ∙ more))
       (λ (k : v ≡ y → ⊥). cond-false (eqb v y) _ _ (ne_eqb v y k) ∙ more)
       (cases_eq v y))
       (cases_eq v x)
@@ -52,13 +52,13 @@ module _ (says : ℕ → ℕ → Bool) (x y : ℕ) where
   none_y [] n e = refl
   none_y (v ∷ l) n e =
       ⊎_elim
-      (λ (h : v ≡ y). absurd (some_none n _ (sym (cond_true (eqb v y) _ _ (eq-eqb v y h)) ∙ e)))
+      (λ (h : v ≡ y). absurd (some_none n _ (sym (cond-true (eqb v y) _ _ (eq-eqb v y h)) ∙ e)))
       (λ (h : v ≡ y → ⊥).
       let rest : places y l (suc n) ≡ [] = sym (cond-false (eqb v y) _ _ (ne_eqb v y h)) ∙ e in
       let more = none_y l (suc n) rest in
       ⊎_elim
       (λ (k : v ≡ x).
-      cond_true (eqb v x) _ _ (eq-eqb v x k) ∙ (ap (λ (ms : List ℕ). with_low n (first_yes (says n) ms) (pair_across says x y l (suc n))) rest ∙ more))
+      cond-true (eqb v x) _ _ (eq-eqb v x k) ∙ (ap (λ (ms : List ℕ). with_low n (first_yes (says n) ms) (pair_across says x y l (suc n))) rest ∙ more))
       (λ (k : v ≡ x → ⊥). cond-false (eqb v x) _ _ (ne_eqb v x k) ∙ (cond-false (eqb v y) _ _ (ne_eqb v y h) ∙ more))
       (cases_eq v x))
       (cases_eq v y)

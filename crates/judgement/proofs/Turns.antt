@@ -1,7 +1,7 @@
 -- What one turn over a list adds to a search. Assumes nothing.
 use Rattle.std.proofs.Common.{◌≡◌, ℕ, suc, ◌+◌, ◌-◌, ◌<◌, ◌≤◌, Bool, true, false, cond, eqb, List, [], ◌∷◌, length, get_or, take, drop, set, Some, None, Option, sym, ap, ◌∙◌, subst, add-one, arith, below_more}
 use Rattle.std.proofs.lemmas.List.{at_drop_more, at_drop_all, drop-drop, length-drop, take_all, length-set, drop-set, get_or-set_same, get_or-set_other}
-use Rattle.std.proofs.lemmas.Bool.{eq-eqb, ne_eqb, cond_true, cond-false}
+use Rattle.std.proofs.lemmas.Bool.{eq-eqb, ne_eqb, cond-true, cond-false}
 use Rattle.links.specs.declared.step.Range.{Range}
 use Rattle.judgement.specs.Search.{places, first_yes, with_low, pair_across}
 
@@ -12,7 +12,7 @@ module _ (says : ℕ → Bool) (js : List ℕ) (i : ℕ) where
   first_turn h = at_drop_more (first_yes says) js i 0 h
 
   pub first_yes_here : i < length js → says (get_or js i 0) ≡ true → first_yes says (drop i js) ≡ Some (get_or js i 0)
-  first_yes_here h e = first_turn h ∙ cond_true (says (get_or js i 0)) _ _ e
+  first_yes_here h e = first_turn h ∙ cond-true (says (get_or js i 0)) _ _ e
 
   pub first_yes_later : i < length js → says (get_or js i 0) ≡ false → first_yes says (drop i js) ≡ first_yes says (drop (i + 1) js)
   first_yes_later h e = first_turn h ∙ cond-false (says (get_or js i 0)) _ _ e
@@ -30,7 +30,7 @@ module _ (x : ℕ) (ls : List ℕ) (i : ℕ) where
       ∙ ap (λ n. cond (eqb (get_or ls i 0) x) (i ∷ places x (drop (i + 1) ls) n) (places x (drop (i + 1) ls) n)) (sym (add-one i))
 
   pub places_here : i < length ls → get_or ls i 0 ≡ x → places x (drop i ls) i ≡ i ∷ places x (drop (i + 1) ls) (i + 1)
-  places_here h e = places_turn h ∙ cond_true (eqb (get_or ls i 0) x) _ _ (eq-eqb (get_or ls i 0) x e)
+  places_here h e = places_turn h ∙ cond-true (eqb (get_or ls i 0) x) _ _ (eq-eqb (get_or ls i 0) x e)
 
   pub places_later : i < length ls → (get_or ls i 0 ≡ x → ⊥) → places x (drop i ls) i ≡ places x (drop (i + 1) ls) (i + 1)
   places_later h e = places_turn h ∙ cond-false (eqb (get_or ls i 0) x) _ _ (ne_eqb (get_or ls i 0) x e)
@@ -60,12 +60,12 @@ module _ (says : ℕ → ℕ → Bool) (x y : ℕ) (ls : List ℕ) (i : ℕ) whe
       (sym (add-one i))
 
   pub pair_x : i < length ls → get_or ls i 0 ≡ x → pair_across says x y (drop i ls) i ≡ Beside y
-  pair_x h e = pair_turn h ∙ cond_true (eqb (get_or ls i 0) x) _ _ (eq-eqb (get_or ls i 0) x e)
+  pair_x h e = pair_turn h ∙ cond-true (eqb (get_or ls i 0) x) _ _ (eq-eqb (get_or ls i 0) x e)
 
   pub pair_y : i < length ls → (get_or ls i 0 ≡ x → ⊥) → get_or ls i 0 ≡ y → pair_across says x y (drop i ls) i ≡ Beside x
   pair_y h n e =
       pair_turn h
-      ∙ (cond-false (eqb (get_or ls i 0) x) _ _ (ne_eqb (get_or ls i 0) x n) ∙ cond_true (eqb (get_or ls i 0) y) _ _ (eq-eqb (get_or ls i 0) y e))
+      ∙ (cond-false (eqb (get_or ls i 0) x) _ _ (ne_eqb (get_or ls i 0) x n) ∙ cond-true (eqb (get_or ls i 0) y) _ _ (eq-eqb (get_or ls i 0) y e))
 
   pub pair_neither : i < length ls → (get_or ls i 0 ≡ x → ⊥) → (get_or ls i 0 ≡ y → ⊥) → pair_across says x y (drop i ls) i ≡ Rest
   pair_neither h n m =

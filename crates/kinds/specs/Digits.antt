@@ -2,7 +2,7 @@
 use Rattle.std.specs.Prelude.{◌≡◌, ℕ, zero, suc, ◌+◌, ◌*◌, ◌/◌, ◌%◌, ◌^◌, ◌<◌, ◌≤◌, true, false, cond, ◌&&◌, List, [], ◌∷◌, length, Some, None, Option, ◌==◌, nat_lt, refl}
 use Rattle.std.proofs.Common.{sym, ap, ◌∙◌, ⊎_elim, mod-lt, mod-eq_of_lt, zero-add, div-lt_iff_lt-mul, pow-suc, arith}
 use Rattle.std.proofs.Math.Nat.{mod-add-div, div-eq_of_lt, pow-zero, add-mul-div_left, add-mul-mod_self_left}
-use Rattle.std.proofs.lemmas.Bool.{lt-ltb, eq-eqb, ltb-true, eqb-true, and_parts, and_from, cond_true, cond-false, cases_Bool}
+use Rattle.std.proofs.lemmas.Bool.{lt-ltb, eq-eqb, ltb-true, eqb-true, and_parts, and_from, cond-true, cond-false, cases_Bool}
 use Rattle.kinds.specs.Codec.{Codec, Within}
 use Rattle.kinds.specs.Residues.{Residue, residue, same_residue}
 
@@ -51,7 +51,7 @@ residue_of_digits base w m more some wide v =
     let same : number base (digits base w v.number) ≡ v.number = number_digits base w v.number some (omega arith) in
     let long = eq-eqb _ _ (length_digits base w v.number) in
     let small = lt-ltb _ m (rw same below) in
-    cond_true _ _ _ (and_from _ _ long small) ∙ ap Some (same_residue _ v (ap (λ n. n % m) same ∙ mod-eq_of_lt below))
+    cond-true _ _ _ (and_from _ _ long small) ∙ ap Some (same_residue _ v (ap (λ n. n % m) same ∙ mod-eq_of_lt below))
 
 pub digits_of_residue : (base w m : ℕ) (more : 0 < m) → 0 < base → (row : List ℕ) (v : Residue m) → Within base row → residue_of base w m more row ≡ Some v → row ≡ digits base w v.number
 digits_of_residue base w m more some row v within is =
@@ -59,7 +59,7 @@ digits_of_residue base w m more some row v within is =
     (λ e.
     let long = eqb-true (length row) w (and_parts _ _ e).0 in
     let small = ltb-true (number base row) m (and_parts _ _ e).1 in
-    let found : Some (residue m more (number base row)) ≡ Some v = sym (cond_true _ _ _ e) ∙ is in
+    let found : Some (residue m more (number base row)) ≡ Some v = sym (cond-true _ _ _ e) ∙ is in
     let at : residue m more (number base row) ≡ v = cc in
     let same : number base row ≡ v.number = sym (mod-eq_of_lt small) ∙ ap (λ (x : Residue m). x.number) at in
     sym (digits_number base row some within) ∙ (λ i. digits base (long i) (same i)))

@@ -3,7 +3,7 @@ use Rattle.std.specs.Prelude.{◌≡◌, ℕ, ◌+◌, ◌-◌, ◌*◌, ◌%◌
 use Rattle.std.proofs.Common.{sym, ap, ◌∙◌, mod-eq_of_lt, mul-zero, mul_comm, arith, lit<}
 use Rattle.std.proofs.Math.Nat.{mod-mod, add-mod}
 use Rattle.std.specs.Option.{option_map}
-use Rattle.std.proofs.lemmas.Bool.{eq-eqb, lt-ltb, le-ltb, cond_true, cond-false}
+use Rattle.std.proofs.lemmas.Bool.{eq-eqb, lt-ltb, le-ltb, cond-true, cond-false}
 use Rattle.std.proofs.lemmas.Bool.Decides.{Decides-like, Decides-and}
 use Rattle.kinds.specs.Digits.{number, residue_of}
 use Rattle.kinds.specs.Kinds.{dials_meaning}
@@ -29,7 +29,7 @@ module _ (m : ℕ) (some : 0 < m) where
   residue_of_row base w row n long is = rw (eq-eqb (length row) w long, is)
 
   pub read_inside : (base w : ℕ) (row : List ℕ) (n : ℕ) → length row ≡ w → number base row ≡ n → n < m → Some (residue m some n) ≡ residue_of base w m some row
-  read_inside base w row n long is small = sym (residue_of_row base w row n long is ∙ cond_true _ _ _ (lt-ltb n m small))
+  read_inside base w row n long is small = sym (residue_of_row base w row n long is ∙ cond-true _ _ _ (lt-ltb n m small))
 
   pub read_beyond : (base w : ℕ) (row : List ℕ) (n : ℕ) → length row ≡ w → number base row ≡ n → m ≤ n → None ≡ residue_of base w m some row
   read_beyond base w row n long is large = sym (residue_of_row base w row n long is ∙ cond-false _ _ _ (le-ltb n m large))

@@ -1,6 +1,6 @@
 -- A query's answer before and after it is counted, as the machine has it. Assumes nothing.
 use Rattle.std.proofs.Common.{◌≡◌, ℕ, ◌<◌, ◌≤◌, true, cond, eqb, List, map, length, Some, None, Option, sym, refl, ap, ◌∙◌, subst, arith}
-use Rattle.std.proofs.lemmas.Bool.{eq-eqb, ne_eqb, cond_true, cond-false}
+use Rattle.std.proofs.lemmas.Bool.{eq-eqb, ne_eqb, cond-true, cond-false}
 use Rattle.kinds.specs.Group.{Group}
 use Rattle.links.specs.declared.links.Links.{Links}
 use Rattle.links.specs.declared.step.Step.{Step}
@@ -50,4 +50,4 @@ module _ {V : Type 0} (G : Group V) (log : Log V) (rule : Rule) (links : Links) 
   pub queried_full : (counts : Counts) → 65535 ≤ counted counts → counted counts ≤ 65535 → Queried G log rule links links table table counts counts steps steps low high (Answer.Refused Fault.Full)
   queried_full counts most within =
       let full : counted counts ≡ 65535 = omega arith in
-      Asked.turned_back (cond_true _ _ _ (eq-eqb (counted counts) 65535 full))
+      Asked.turned_back (cond-true _ _ _ (eq-eqb (counted counts) 65535 full))

@@ -1,6 +1,6 @@
 -- What the judgement, the distances and the store say together, as the machine has it. Assumes nothing.
 use Rattle.std.proofs.Common.{◌≡◌, ℕ, ◌<◌, ◌≤◌, Bool, true, false, cond, ◌&&◌, eqb, ◌⊎◌, List, [], ◌∷◌, ◌++◌, map, length, take, drop, sym, refl, ap, ◌∙◌, subst, inl, inr, ⊎_elim, arith, take-append-drop, length-take}
-use Rattle.std.proofs.lemmas.Bool.{cases_Bool, and_parts, and_from, eq-eqb, eqb-true, cond_true, cond-false}
+use Rattle.std.proofs.lemmas.Bool.{cases_Bool, and_parts, and_from, eq-eqb, eqb-true, cond-true, cond-false}
 use Rattle.kinds.specs.Group.{Group}
 use Rattle.links.specs.declared.links.Links.{Links}
 use Rattle.links.specs.declared.step.Origin.{Origin}
@@ -44,7 +44,7 @@ module _ {V : Type 0} (G : Group V) (f : Range → V) where
   found_amount [] r l = absurd l
   found_amount (s ∷ js) r l =
       ⊎_elim
-      (λ e. cond_true _ _ _ e ∙ ap f (same_ends r s e))
+      (λ e. cond-true _ _ _ e ∙ ap f (same_ends r s e))
       (λ e.
       cond-false _ _ _ e ∙ found_amount js r (⊎_elim (λ (at : r ≡ s). absurd (let both = sym e ∙ ends_same r s at in let z : ◌≡◌ {A = ℕ} 0 1 = cc in omega arith)) (λ later. later) l))
       (cases_Bool (same_range r s))

@@ -1,6 +1,6 @@
 -- Released sums are sums of readings, chains sum to the stretch they lead over, and no ring is closed. Assumes nothing.
 use Rattle.std.proofs.Common.{◌≡◌, ℕ, suc, ◌<◌, ◌≤◌, true, false, eqb, ◌⊎◌, List, [], ◌∷◌, map, length, sym, refl, ap, ◌∙◌, subst, inl, inr, arith}
-use Rattle.std.proofs.lemmas.Bool.{both_ways, cases_Bool, cond_true, cond-false, eqb-true, eq-eqb, and_parts, and_from}
+use Rattle.std.proofs.lemmas.Bool.{both_ways, cases_Bool, cond-true, cond-false, eqb-true, eq-eqb, and_parts, and_from}
 use Rattle.links.specs.declared.step.Range.{Range}
 use Rattle.links.specs.declared.step.Origin.{Origin}
 use Rattle.links.specs.declared.step.Origin.TheVariants.{Released, New}
@@ -66,7 +66,7 @@ module _ {V : Type 0} (G : Group V) (log : Log V) (rule : Rule) where
   amount_true (x ∷ xs) t r m = by (cases_Bool (same_range r x.range)) m (amount_true xs t.1 r)
     where
       by : (same_range r x.range ≡ true) ⊎ (same_range r x.range ≡ false) → Listed r (x.range ∷ ranges xs) → (Listed r (ranges xs) → amount_of G xs r ≡ worth G log r) → amount_of G (x ∷ xs) r ≡ worth G log r
-      by (inl y) k ih = cond_true (same_range r x.range) x.amount (amount_of G xs r) y ∙ t.0 ∙ ap (worth G log) (sym (same_range_true r x.range y))
+      by (inl y) k ih = cond-true (same_range r x.range) x.amount (amount_of G xs r) y ∙ t.0 ∙ ap (worth G log) (sym (same_range_true r x.range y))
       by (inr n) (inl e) ih = absurd (both_ways (same_range r x.range) n (true_same_range r x.range e))
       by (inr n) (inr k) ih = cond-false (same_range r x.range) x.amount (amount_of G xs r) n ∙ ih k
 

@@ -3,13 +3,13 @@ use Rattle.std.proofs.Common.{◌≡◌, ℕ, ◌+◌, ◌-◌, ◌<◌, ◌≤�
 use borrow.Rule.Slice.PartMut.{put_mid}
 use lib.Seq.{take-append-add}
 use Rattle.std.proofs.lemmas.List.{flat_map_more, take_more, append_assoc, append-nil, take_all, take_at, take-append-le, take_rest, drop_all, drop_at, drop-drop}
-use Rattle.std.proofs.lemmas.Bool.{le-leb, lt-leb, leb-true, leb-false, cases_Bool, cond_true, cond-false}
+use Rattle.std.proofs.lemmas.Bool.{le-leb, lt-leb, leb-true, leb-false, cases_Bool, cond-true, cond-false}
 use Rattle.std.specs.List.{flat_map}
 use Rattle.lines.specs.Text.{filled, placed, Wrote, number_text, form_text}
 use Rattle.lines.specs.Fits.{Whole}
 
 pub filled_some : (t buf : List ℕ) → length t ≤ length buf → filled t buf ≡ Some (length t)
-filled_some t buf h = cond_true _ _ _ (le-leb (length t) (length buf) h)
+filled_some t buf h = cond-true _ _ _ (le-leb (length t) (length buf) h)
 
 pub filled_none : (t buf : List ℕ) → length buf < length t → filled t buf ≡ None
 filled_none t buf h = cond-false _ _ _ (lt-leb (length t) (length buf) h)
@@ -19,7 +19,7 @@ pub fits : (t buf : List ℕ) (n : ℕ) → Some n ≡ filled t buf → (n ≡ l
 fits t buf n e =
     ⊎_elim
     (λ b.
-    let is = e ∙ cond_true _ _ _ b in
+    let is = e ∙ cond-true _ _ _ b in
     let same : n ≡ length t = cc in
     (same, leb-true _ _ b))
     (λ b.
@@ -33,7 +33,7 @@ pub over : (t buf : List ℕ) → None ≡ filled t buf → length buf < length 
 over t buf e =
     ⊎_elim
     (λ b.
-    let is = e ∙ cond_true _ _ _ b in
+    let is = e ∙ cond-true _ _ _ b in
     let apart : ◌≡◌ {A = ℕ} 0 1 = cc in
     absurd (omega arith))
     (λ b. leb-false _ _ b)

@@ -1,6 +1,6 @@
 -- Linked boundaries: an equivalence, decided by labels, and what one more range adds. Assumes nothing.
 use Rattle.std.proofs.Common.{◌≡◌, ℕ, Bool, true, false, cond, eqb, ◌⊎◌, List, [], ◌∷◌, sym, refl, ap, ◌∙◌, subst, inl, inr}
-use Rattle.std.proofs.lemmas.Bool.{eqb-true, eq-eqb, ne_eqb, cases_eq, cond_true, cond-false}
+use Rattle.std.proofs.lemmas.Bool.{eqb-true, eq-eqb, ne_eqb, cases_eq, cond-true, cond-false}
 use Rattle.links.specs.declared.step.Range.{Range}
 use Rattle.links.specs.Linked.{Listed, Ends, Linked}
 
@@ -35,7 +35,7 @@ relabel_cases : (lo hi t : ℕ) → ((t ≡ hi) × (relabel lo hi t ≡ lo)) ⊎
 unfolding relabel
 relabel_cases lo hi t =
     elim (cases_eq t hi) [
-      | inl e ↦ inl (e, cond_true (eqb t hi) lo t (eq-eqb t hi e))
+      | inl e ↦ inl (e, cond-true (eqb t hi) lo t (eq-eqb t hi e))
       | inr n ↦ inr (n, cond-false (eqb t hi) lo t (ne_eqb t hi n))
     ]
 

@@ -1,6 +1,6 @@
 -- A chain without repeats has no more steps than there are boundaries to meet. Assumes nothing.
 use Rattle.std.proofs.Common.{◌≡◌, ℕ, zero, suc, ◌<◌, ◌≤◌, cond, eqb, ◌⊎◌, List, [], ◌∷◌, map, length, sym, refl, ap, ◌∙◌, subst, inl, inr, arith}
-use Rattle.std.proofs.lemmas.Bool.{cases_eq, eq-eqb, ne_eqb, cond_true, cond-false}
+use Rattle.std.proofs.lemmas.Bool.{cases_eq, eq-eqb, ne_eqb, cond-true, cond-false}
 use Rattle.links.specs.declared.step.Step.{Step}
 use Rattle.links.specs.Chains.{end, Absent, Distinct}
 
@@ -17,7 +17,7 @@ without_cases : (k x : ℕ) (xs : List ℕ) → ((x ≡ k) × (without k (x ∷ 
 unfolding without
 without_cases k x xs =
     elim (cases_eq x k) [
-      | inl e ↦ inl (e, cond_true (eqb x k) (without k xs) (x ∷ without k xs) (eq-eqb x k e))
+      | inl e ↦ inl (e, cond-true (eqb x k) (without k xs) (x ∷ without k xs) (eq-eqb x k e))
       | inr n ↦ inr (n, cond-false (eqb x k) (without k xs) (x ∷ without k xs) (ne_eqb x k n))
     ]
 

@@ -1,6 +1,6 @@
 -- Over ranges that close no ring, exactly one chain without repeats joins two linked boundaries. Assumes nothing.
 use Rattle.std.proofs.Common.{◌≡◌, ℕ, suc, cond, ◌⊎◌, List, [], ◌∷◌, ◌++◌, map, sym, refl, ap, ◌∙◌, subst, inl, inr}
-use Rattle.std.proofs.lemmas.Bool.{cond_true, cond-false}
+use Rattle.std.proofs.lemmas.Bool.{cond-true, cond-false}
 use Rattle.links.specs.declared.step.Range.{Range}
 use Rattle.links.specs.declared.step.Sign.{Sign}
 use Rattle.links.specs.declared.step.Sign.TheVariants.{Plus, Minus}
@@ -108,14 +108,14 @@ path (e ∷ es) i j =
 
 path_same : (e : Edge) (es : List Edge) (i j : ℕ) → Linked (ranges es) i j → path (e ∷ es) i j ≡ path es i j
 unfolding path
-path_same e es i j p = cond_true _ _ _ (linked_true (ranges es) i j p)
+path_same e es i j p = cond-true _ _ _ (linked_true (ranges es) i j p)
 
 apart : (es : List Edge) (r : Range) (i j : ℕ) → (Linked (ranges es) r.low r.high → ⊥) → Linked (ranges es) i r.low → Linked (ranges es) r.high j → Linked (ranges es) i j → ⊥
 apart es r i j n p q l = n (linked_trans (linked_sym p) (linked_trans l (linked_sym q)))
 
 path_up : (e : Edge) (es : List Edge) (i j : ℕ) → (Linked (ranges es) e.range.low e.range.high → ⊥) → Linked (ranges es) i e.range.low → Linked (ranges es) e.range.high j → path (e ∷ es) i j ≡ path es i e.range.low ++ (step_over e Plus ∷ path es e.range.high j)
 unfolding path
-path_up e es i j n p q = cond-false _ _ _ (linked_false (ranges es) i j (apart es e.range i j n p q)) ∙ cond_true _ _ _ (linked_true (ranges es) i e.range.low p)
+path_up e es i j n p q = cond-false _ _ _ (linked_false (ranges es) i j (apart es e.range i j n p q)) ∙ cond-true _ _ _ (linked_true (ranges es) i e.range.low p)
 
 path_down : (e : Edge) (es : List Edge) (i j : ℕ) → (Linked (ranges es) e.range.low e.range.high → ⊥) → Linked (ranges es) i e.range.high → Linked (ranges es) e.range.low j → path (e ∷ es) i j ≡ path es i e.range.high ++ (step_over e Minus ∷ path es e.range.low j)
 unfolding path

@@ -1,7 +1,7 @@
 -- What one more slot adds to a sum, and what an answer tells of its slot. Assumes nothing.
 use Rattle.std.proofs.Common.{◌≡◌, ℕ, suc, ◌+◌, ◌-◌, ◌<◌, ◌≤◌, true, false, cond, ltb, sym, refl, ap, ◌∙◌, ⊎_elim, arith}
 use native.Mathlib.Nat.{sub_self}
-use Rattle.std.proofs.lemmas.Bool.{lt-ltb, le-ltb, cases_lt, cond_true, cond-false}
+use Rattle.std.proofs.lemmas.Bool.{lt-ltb, le-ltb, cases_lt, cond-true, cond-false}
 use Rattle.kinds.specs.Group.{Group}
 use Rattle.stores.specs.declared.store.Mark.{Mark}
 use Rattle.stores.specs.declared.store.Mark.TheVariants.{Kept, Lost}
@@ -34,7 +34,7 @@ module _ {V : Type 0} (log : Log V) (i : ℕ) where
   not_outside Lost y e = let z : ◌≡◌ {A = ℕ} 0 1 = cc in omega arith
 
   inside : i < log.slots → answer log i ≡ told (log.mark i) (log.reading i)
-  inside h = cond_true _ _ _ (lt-ltb i log.slots h)
+  inside h = cond-true _ _ _ (lt-ltb i log.slots h)
 
   -- a value is answered for a kept slot alone, and is its reading
   pub value_tells : (x : V) → i < log.slots → Value x ≡ answer log i → (log.mark i ≡ Kept) × (x ≡ log.reading i)

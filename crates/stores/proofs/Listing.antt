@@ -1,7 +1,7 @@
 -- Listing slot after slot as they answer. Assumes nothing.
 use Rattle.std.proofs.Common.{◌≡◌, ℕ, ◌+◌, ◌<◌, ◌≤◌, min, true, false, cond, ltb, List, [], ◌∷◌, ◌++◌, length, get_or, sym, refl, ap, ◌∙◌, subst, ⊎_elim, arith}
 use Rattle.std.proofs.lemmas.List.{length_push, get_or_push, get_or_append_left}
-use Rattle.std.proofs.lemmas.Bool.{cases_lt, lt-ltb, le-ltb, cond_true, cond-false}
+use Rattle.std.proofs.lemmas.Bool.{cases_lt, lt-ltb, le-ltb, cond-true, cond-false}
 use Rattle.stores.specs.declared.store.Mark.{Mark}
 use Rattle.stores.specs.declared.store.Mark.TheVariants.{Kept, Lost}
 use Rattle.stores.specs.declared.store.Reading.TheVariants.{Outside}
@@ -53,7 +53,7 @@ module _ {R V : Type 0} (f : R → V) (none : R) (log : Log V) where
         count,
         λ i.
             ⊎_elim
-            (λ inside. sym (so.each i inside) ∙ sym (cond_true _ _ _ (lt-ltb i (min (length values) (length marks)) (omega arith))))
+            (λ inside. sym (so.each i inside) ∙ sym (cond-true _ _ _ (lt-ltb i (min (length values) (length marks)) (omega arith))))
             (λ past. cond-false _ _ _ (le-ltb i log.slots past) ∙ sym (cond-false _ _ _ (le-ltb i (min (length values) (length marks)) (omega arith))))
             (cases_lt i log.slots),
       )

@@ -2,7 +2,7 @@
 use Rattle.std.proofs.Common.{◌≡◌, ℕ, suc, ◌+◌, ◌-◌, ◌*◌, ◌/◌, ◌%◌, ◌<◌, ◌≤◌, true, cond, ltb, List, length, get_or, take, drop, Some, None, Option, unwrap_or, sym, refl, ap, ◌∙◌, mul-le-mul_right, suc-mul, arith}
 use Rattle.std.proofs.lemmas.Nat.{div-add-mod'}
 use Rattle.std.proofs.lemmas.List.{take_rest}
-use Rattle.std.proofs.lemmas.Bool.{lt-ltb, cond_true}
+use Rattle.std.proofs.lemmas.Bool.{lt-ltb, cond-true}
 use Rattle.kinds.specs.Codec.{Codec}
 use Rattle.kinds.specs.Group.{Group}
 use Rattle.stores.specs.declared.store.Reading.{Reading}
@@ -36,9 +36,9 @@ module _ {V : Type 0} (G : Group V) (c : Codec 256 V) (row : List ℕ) where
 -- where a record begins is its slot times the width
 pub begins : (at slot n w : ℕ) → slot < n → Some at ≡ cond (ltb slot n) (Some (slot * w)) None → at ≡ slot * w
 begins at slot n w within e =
-    let found : Some at ≡ Some (slot * w) = e ∙ cond_true _ _ _ (lt-ltb slot n within) in
+    let found : Some at ≡ Some (slot * w) = e ∙ cond-true _ _ _ (lt-ltb slot n within) in
     cc
 
 -- a slot within the log answers what its mark and reading tell
 pub answer_inside : {V : Type 0} (log : Log V) (i : ℕ) → i < log.slots → told (log.mark i) (log.reading i) ≡ answer log i
-answer_inside log i within = sym (cond_true _ _ _ (lt-ltb i log.slots within))
+answer_inside log i within = sym (cond-true _ _ _ (lt-ltb i log.slots within))

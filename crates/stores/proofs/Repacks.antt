@@ -1,7 +1,7 @@
 -- Packing slot after slot as they were read. Assumes nothing.
 use Rattle.std.proofs.Common.{◌≡◌, ℕ, suc, ◌+◌, ◌-◌, ◌*◌, ◌/◌, ◌<◌, ◌≤◌, true, false, cond, eqb, ltb, List, [], ◌∷◌, length, get_or, take, drop, replicate, Some, None, Option, unwrap_or, sym, refl, ap, ◌∙◌, subst, ⊎_elim, arith, length-drop, length-take}
 use Rattle.std.proofs.lemmas.List.{get_or-take, get_or-drop}
-use Rattle.std.proofs.lemmas.Bool.{cases_lt, cases_Bool, lt-ltb, eqb-true, cond_true, cond-false}
+use Rattle.std.proofs.lemmas.Bool.{cases_lt, cases_Bool, lt-ltb, eqb-true, cond-true, cond-false}
 use Rattle.kinds.specs.Codec.{Codec, Within}
 use Rattle.kinds.specs.Group.{Group}
 use Rattle.stores.specs.declared.packing.Slot.{Slot}
@@ -35,7 +35,7 @@ module _ {V : Type 0} (G : Group V) (c : Codec 256 V) (old before : List ℕ) wh
       let long = so.long in
       let inside : n < length new / width c = rw so.long within in
       let fits = record_fits n (length new) (width c) inside in
-      let whole : packed c new n what ≡ overwritten new (n * width c) row = cond_true _ _ _ (lt-ltb n _ inside) in
+      let whole : packed c new n what ≡ overwritten new (n * width c) row = cond-true _ _ _ (lt-ltb n _ inside) in
       rw whole (record {
         long = length_overwritten new (n * width c) row (omega arith) ∙ so.long;
         each = λ i below.

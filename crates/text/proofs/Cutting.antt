@@ -1,7 +1,7 @@
 -- How a line's runs follow one another. Assumes nothing.
 use Rattle.std.proofs.Common.{◌≡◌, ℕ, suc, ◌+◌, ◌<◌, ◌≤◌, true, false, cond, ◌&&◌, List, [], ◌∷◌, length, get_or, take, drop, sym, refl, ap, ◌∙◌, ⊎_elim, one-add, arith, take-append-drop}
 use Rattle.std.proofs.lemmas.List.{at_drop_more, at_drop_all, length-take-le}
-use Rattle.std.proofs.lemmas.Bool.{cond_true, cond-false, and_from, and_left, and_right, cases_Bool, cond_both}
+use Rattle.std.proofs.lemmas.Bool.{cond-true, cond-false, and_from, and_left, and_right, cases_Bool, cond_both}
 use Rattle.text.specs.Alphabet.{class, same, joins}
 use Rattle.text.specs.Runs.{run_length, Run, before, runs, CutOff}
 use Rattle.text.specs.declared.alphabet.Class.{Class}
@@ -13,7 +13,7 @@ run_none k = refl
 
 pub run_goes_on : (k : Class) (b : ℕ) (bs : List ℕ) → class b ≡ k → run_length k (b ∷ bs) ≡ 1 + run_length k bs
 unfolding run_length
-run_goes_on k b bs e = cond_true _ _ _ (class_same _ _ e)
+run_goes_on k b bs e = cond-true _ _ _ (class_same _ _ e)
 
 pub run_stops : (k : Class) (b : ℕ) (bs : List ℕ) → (class b ≡ k → ⊥) → run_length k (b ∷ bs) ≡ 0
 unfolding run_length
@@ -83,7 +83,7 @@ runs_joined k j b (d ∷ bs) e =
     (λ s.
     let on = run_goes_on k d bs (same_class _ _ s) ∙ one-add _ in
     let next = runs_joined k j d bs (same_class _ _ s) in
-    runs_next b (d ∷ bs) ∙ (λ i. before (e i) b (next i)) ∙ cond_true _ _ _ (and_from _ _ j (class_same k k refl))
+    runs_next b (d ∷ bs) ∙ (λ i. before (e i) b (next i)) ∙ cond-true _ _ _ (and_from _ _ j (class_same k k refl))
     ∙ ap (cut_at k b (d ∷ bs)) (sym on))
     (λ s.
     let off = run_off k d bs s in

@@ -2,7 +2,7 @@
 use Rattle.std.proofs.Common.{◌≡◌, ℕ, ◌+◌, ◌-◌, ◌*◌, ◌^◌, ◌<◌, ◌≤◌, true, false, ◌&&◌, eqb, ltb, ◌⊎◌, List, [], ◌∷◌, length, get_or, Some, None, decimal, sym, refl, ap, ◌∙◌, subst, inl, inr, ⊎_elim, mul_comm, arith, rules}
 use Rattle.std.proofs.lemmas.Fmt.{decimal-digits_value, digits_value-decimal, digits_decimal, decimal_nonempty, first_decimal, decimal_digit}
 use Rattle.std.proofs.lemmas.Str.Parse.{IsNumeralModel, FoldsDigits, numerals_by_fold, tells_by_index}
-use Rattle.std.proofs.lemmas.Bool.{both_ways, cases_lt, cond_true, cond-false, cases_Bool, cases_order, eq-eqb, eqb-true, ne_eqb, lt-ltb, le-ltb, ltb-true, ltb-false, and_from, and_parts, and_left, and_right}
+use Rattle.std.proofs.lemmas.Bool.{both_ways, cases_lt, cond-true, cond-false, cases_Bool, cases_order, eq-eqb, eqb-true, ne_eqb, lt-ltb, le-ltb, ltb-true, ltb-false, and_from, and_parts, and_left, and_right}
 use Rattle.std.specs.Int.{IsInRange}
 use Rattle.text.specs.Numbers.{value_after, zero_led, number_of}
 use Rattle.text.specs.Spelling.{Between}
@@ -39,11 +39,11 @@ number_decimal n h =
 pub decimal_number : (ds : List ℕ) (n : ℕ) → 0 < length ds → Between 48 57 ds → number_of ds ≡ Some n → (n < 2 ^ 32) × (ds ≡ decimal n)
 decimal_number ds n some all is =
     ⊎_elim
-    (λ led. let none : None ≡ Some n = sym (cond_true _ _ _ led) ∙ is in let z : ◌≡◌ {A = ℕ} 0 1 = cc in absurd (omega arith))
+    (λ led. let none : None ≡ Some n = sym (cond-true _ _ _ led) ∙ is in let z : ◌≡◌ {A = ℕ} 0 1 = cc in absurd (omega arith))
     (λ led.
     ⊎_elim
     (λ small.
-    let found : Some (value_after 0 ds) ≡ Some n = sym (cond-false _ _ _ led ∙ cond_true _ _ _ small) ∙ is in
+    let found : Some (value_after 0 ds) ≡ Some n = sym (cond-false _ _ _ led ∙ cond-true _ _ _ small) ∙ is in
     let same : value_after 0 ds ≡ n = cc in
     let less = ltb-true (value_after 0 ds) (2 ^ 32) small in
     let first : get_or ds 0 0 ≡ 48 → length ds ≡ 1 =

@@ -2,7 +2,7 @@
 use Rattle.std.proofs.Common.{◌≡◌, ℕ, zero, suc, ◌+◌, ◌^◌, ◌<◌, ◌≤◌, Bool, true, false, cond, ◌&&◌, ◌⊎◌, List, [], ◌∷◌, ◌++◌, length, get_or, take, drop, replicate, Some, None, Ok, Err, decimal, Option, Result, sym, refl, ap, ◌∙◌, subst, inl, inr, ⊎_elim, add-zero, add_assoc, zero-add, add-one, one-add, arith}
 use Rattle.std.proofs.lemmas.Fmt.{decimal_nonempty}
 use Rattle.std.proofs.lemmas.List.{take_at, drop_at, append_assoc}
-use Rattle.std.proofs.lemmas.Bool.{cond_true, cond-false, cases_Bool, and_from, and_left, and_right}
+use Rattle.std.proofs.lemmas.Bool.{cond-true, cond-false, cases_Bool, and_from, and_left, and_right}
 use Rattle.std.specs.Int.{IsInRange}
 use Rattle.text.specs.Alphabet.{class, rank, same, joins}
 use Rattle.text.specs.Faults.{along}
@@ -43,7 +43,7 @@ one_blank p d (r ∷ rs) =
     (λ e.
     let is : r.0 ≡ Blank = sym (same_class Blank r.0 e) in
     let more : 1 + length r.1 ≡ length (32 ∷ r.1) = one-add _ in
-    ap (reading p d) (cond_true _ _ _ e) ∙ past_blank p d (32 ∷ r.1) rs
+    ap (reading p d) (cond-true _ _ _ e) ∙ past_blank p d (32 ∷ r.1) rs
     ∙ ap (λ q. reading q d rs) (ap (along p) (sym more) ∙ sym (along_twice p 1 (length r.1)))
     ∙ sym (past_blank (along p 1) d r.1 rs) ∙ ap (λ k. reading (along p 1) d ((k, r.1) ∷ rs)) (sym is))
     (λ e. ap (reading p d) (cond-false _ _ _ e) ∙ past_blank p d (32 ∷ []) (r ∷ rs))

@@ -1,13 +1,13 @@
 -- How a text's lines follow one another. Assumes nothing.
 use Rattle.std.proofs.Common.{◌≡◌, ℕ, zero, suc, ◌+◌, ◌<◌, ◌≤◌, true, false, eqb, ◌⊎◌, List, [], ◌∷◌, ◌++◌, length, get_or, take, drop, sym, refl, ap, ◌∙◌, subst, inl, inr, ⊎_elim, one-add, arith}
 use Rattle.std.proofs.lemmas.List.{at_drop_more, at_drop_all, length-take-le, length-drop}
-use Rattle.std.proofs.lemmas.Bool.{cond_true, cond-false, cases_Bool, eq-eqb, ne_eqb, eqb-true, eqb-false}
+use Rattle.std.proofs.lemmas.Bool.{cond-true, cond-false, cases_Bool, eq-eqb, ne_eqb, eqb-true, eqb-false}
 use Rattle.text.specs.Lines.{line_length, FirstLine}
 use Rattle.text.specs.Script.{lengthened, lines, Unbroken, Split, Splits}
 
 line_ends : (b : ℕ) (bs : List ℕ) → eqb b 10 ≡ true → line_length (b ∷ bs) ≡ 0
 unfolding line_length
-line_ends b bs e = cond_true _ _ _ e
+line_ends b bs e = cond-true _ _ _ e
 
 line_goes_on : (b : ℕ) (bs : List ℕ) → eqb b 10 ≡ false → line_length (b ∷ bs) ≡ 1 + line_length bs
 unfolding line_length
@@ -41,7 +41,7 @@ lines_none = refl
 
 lines_end : (b : ℕ) (bs : List ℕ) → eqb b 10 ≡ true → lines (b ∷ bs) ≡ [] ∷ lines bs
 unfolding lines
-lines_end b bs e = cond_true _ _ _ e
+lines_end b bs e = cond-true _ _ _ e
 
 lines_on : (b : ℕ) (bs : List ℕ) → eqb b 10 ≡ false → lines (b ∷ bs) ≡ lengthened b (lines bs)
 unfolding lines

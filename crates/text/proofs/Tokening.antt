@@ -1,7 +1,7 @@
 -- How a line's tokens follow from its runs. Assumes nothing.
 use Rattle.std.proofs.Common.{◌≡◌, ℕ, suc, ◌+◌, ◌<◌, ◌≤◌, true, false, List, [], ◌∷◌, length, get_or, take, drop, Some, None, sym, refl, ap, ◌∙◌, ⊎_elim, add-zero, one-add, arith}
 use Rattle.std.proofs.lemmas.List.{length-take-le}
-use Rattle.std.proofs.lemmas.Bool.{cond_true, cond-false, cases_Bool, cases_lt}
+use Rattle.std.proofs.lemmas.Bool.{cond-true, cond-false, cases_Bool, cases_lt}
 use Rattle.text.specs.Alphabet.{class, same}
 use Rattle.text.specs.Faults.{along}
 use Rattle.text.specs.Runs.{run_length, Run, runs, CutOff}
@@ -22,7 +22,7 @@ tokens_none p bs e = ap (λ b. tokens p (runs b)) e ∙ ap (tokens p) runs_none 
 
 pub tokens_past : (p : Place) (r : Run) (rs : List Run) → r.0 ≡ Blank → tokens p (r ∷ rs) ≡ tokens (along p (length r.1)) rs
 unfolding tokens
-tokens_past p r rs e = cond_true _ _ _ (class_same _ _ e)
+tokens_past p r rs e = cond-true _ _ _ (class_same _ _ e)
 
 pub tokens_at : (p : Place) (r : Run) (rs : List Run) → (r.0 ≡ Blank → ⊥) → tokens p (r ∷ rs) ≡ onto p (symbol_of r.0 r.1) (tokens (along p (length r.1)) rs)
 unfolding tokens

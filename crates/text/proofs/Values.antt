@@ -1,7 +1,7 @@
 -- Reading digits from the left. Assumes nothing.
 use Rattle.std.proofs.Common.{◌≡◌, ℕ, ◌+◌, ◌-◌, ◌*◌, ◌^◌, ◌<◌, ◌≤◌, true, false, ◌&&◌, List, [], ◌∷◌, length, get_or, drop, Some, None, sym, refl, ap, ◌∙◌, ⊎_elim, arith}
 use Rattle.std.proofs.lemmas.List.{at_drop_more, at_drop_all}
-use Rattle.std.proofs.lemmas.Bool.{cond_true, cond-false, lt-ltb, le-ltb, eq-eqb, ne_eqb, and_from, and_left, and_right, cases_Bool}
+use Rattle.std.proofs.lemmas.Bool.{cond-true, cond-false, lt-ltb, le-ltb, eq-eqb, ne_eqb, and_from, and_left, and_right, cases_Bool}
 use Rattle.text.specs.Numbers.{value_after, number_of, zero_led}
 
 pub value_none : (n : ℕ) → value_after n [] ≡ n
@@ -25,8 +25,8 @@ pub value_all : (n : ℕ) (ds : List ℕ) (i : ℕ) → length ds ≤ i → valu
 value_all n ds i h = at_drop_all (value_after n) ds i h ∙ value_none n
 
 pub not_led : (ds : List ℕ) → zero_led ds ≡ false → value_after 0 ds < 2 ^ 32 → number_of ds ≡ Some (value_after 0 ds)
-not_led ds e h = cond-false _ _ _ e ∙ cond_true _ _ _ (lt-ltb _ _ h)
+not_led ds e h = cond-false _ _ _ e ∙ cond-true _ _ _ (lt-ltb _ _ h)
 
 pub too_large : (ds : List ℕ) → 2 ^ 32 ≤ value_after 0 ds → number_of ds ≡ None
 too_large ds h =
-    ⊎_elim (λ e. cond_true _ _ _ e) (λ e. cond-false _ _ _ e ∙ cond-false _ _ _ (le-ltb _ _ h)) (cases_Bool (zero_led ds))
+    ⊎_elim (λ e. cond-true _ _ _ e) (λ e. cond-false _ _ _ e ∙ cond-false _ _ _ (le-ltb _ _ h)) (cases_Bool (zero_led ds))

@@ -1,6 +1,6 @@
 use Rattle.std.proofs.Common.{◌≡◌, length, IfOk, string_bytes, sym, ap, ◌∙◌, subst, rules}
 use Rattle.std.proofs.lemmas.List.{take_at}
-use Rattle.std.proofs.lemmas.Bool.{lt-ltb, eq-eqb, and_from, cond_true}
+use Rattle.std.proofs.lemmas.Bool.{lt-ltb, eq-eqb, and_from, cond-true}
 use Rattle.dump.specs.Texts.{spaced}
 use Rattle.dump.proofs.texts.value_text.Goals as goal
 
@@ -10,7 +10,7 @@ returns g c = λ small.
     let value = g.K.Kind.meaning c.args.value in
     let long : length c.deref-mut.result.now ≡ codec.size = search rules in
     let written : c.write-numbers.new.out ≡ codec.write value =
-    c.write-numbers.ensures.after ∙ cond_true _ _ _ (and_from _ _ (lt-ltb codec.size 255 small) (eq-eqb _ codec.size long)) in
+    c.write-numbers.ensures.after ∙ cond-true _ _ _ (and_from _ _ (lt-ltb codec.size 255 small) (eq-eqb _ codec.size long)) in
     let whole = ap length written ∙ codec.sized small value ∙ sym long ∙ c.deref-mut.ensures.len in
     let row = c.deref.ensures.value ∙ take_at c.write-numbers.new.out _ _ whole ∙ written in
     subst (λ l. IfOk c.spaced-text.result (λ s. string_bytes s ≡ spaced l)) row c.spaced-text.ensures

@@ -1,6 +1,6 @@
 use Rattle.std.proofs.Common.{◌≡◌, ◌+◌, ◌-◌, ◌*◌, ◌/◌, ◌<◌, length, take, drop, sym, ap, ◌∙◌, subst, arith, length-drop, length-take}
 use borrow.Rule.Slice.PartMut.{put_mid}
-use Rattle.std.proofs.lemmas.Bool.{lt-ltb, cond_true}
+use Rattle.std.proofs.lemmas.Bool.{lt-ltb, cond-true}
 use Rattle.stores.specs.Packing.{packed_record, overwritten, valued_slot, ReadsBack}
 use Rattle.stores.specs.Stores.{packed_log, width}
 use Rattle.stores.proofs.Overwrites.{length_record, putMid_overwritten, reads_back}
@@ -28,6 +28,6 @@ returns g c =
     let inside = lt-ltb slot (length bytes / width codec) within in
     record {
       test = sym inside;
-      after = whole ∙ sym (cond_true _ _ _ inside);
+      after = whole ∙ sym (cond-true _ _ _ inside);
       back = subst (λ new. ReadsBack (packed_log g.K.Kind.group codec bytes) (packed_log g.K.Kind.group codec new) slot what) (sym whole) (reads_back g.K.Kind.group codec bytes slot what within);
     }

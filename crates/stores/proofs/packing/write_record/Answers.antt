@@ -1,6 +1,6 @@
 use Rattle.std.proofs.Common.{◌≡◌, ◌-◌, ◌<◌, length, take, drop, set, sym, ap, ◌∙◌, arith, length-drop, length-set, length-take, false-eqb}
 use borrow.Rule.Slice.PartMut.{put_mid}
-use Rattle.std.proofs.lemmas.Bool.{eq-eqb, cond_true}
+use Rattle.std.proofs.lemmas.Bool.{eq-eqb, cond-true}
 use Rattle.stores.specs.Packing.{packed_record, valued_slot}
 use Rattle.stores.proofs.Overwrites.{marked_row}
 use Rattle.stores.proofs.packing.write_record.Goals as goal
@@ -14,7 +14,7 @@ returns-else-is-empty g c = λ long.
     let rest = length-drop 1 (set row 0 1) in
     let part : length (take (length (set row 0 1) - 1) (drop 1 (set row 0 1))) ≡ codec.size =
     omega (arith, length-take (length (set row 0 1) - 1) (drop 1 (set row 0 1))) in
-    let written = c.write-bytes.ensures.after ∙ cond_true _ _ _ (eq-eqb _ codec.size part) in
+    let written = c.write-bytes.ensures.after ∙ cond-true _ _ _ (eq-eqb _ codec.size part) in
     ap (put_mid 1 (length (set row 0 1) - 1) (set row 0 1)) written
     ∙ marked_row row (codec.write (g.K.Kind.meaning c.in-Kept.value)) some
     ∙ sym (ap (λ what. packed_record codec (valued_slot g.K.Kind.meaning what)) c.in-Kept.is)

@@ -1,5 +1,5 @@
 use Rattle.std.proofs.Common.{◌≡◌, ◌+◌, ◌-◌, ◌*◌, ◌^◌, ◌<◌, true, false, length, get_or, drop, Some, sym, ap, ◌∙◌, arith}
-use Rattle.std.proofs.lemmas.Bool.{and_left, and_right, and_from, cond_true, le-ltb, lt-ltb, eq-eqb, ne_eqb}
+use Rattle.std.proofs.lemmas.Bool.{and_left, and_right, and_from, cond-true, le-ltb, lt-ltb, eq-eqb, ne_eqb}
 use Rattle.text.specs.Numbers.{value_after, zero_led}
 use Rattle.text.proofs.Values.{value_more, value_all, value_grows, not_led, too_large}
 use Rattle.text.proofs.number.number.Goals as goal
@@ -24,7 +24,7 @@ returns-then-value-ge-TOO-LARGE c =
 
 pub returns-then-digits-eq48 : goal.returns-then-digits-eq48
 returns-then-digits-eq48 c =
-    sym (cond_true _ _ _ (and_from _ _ (lt-ltb _ _ c.if-digits-gt1.true) (eq-eqb _ _ c.if-digits-eq48.true)))
+    sym (cond-true _ _ _ (and_from _ _ (lt-ltb _ _ c.if-digits-gt1.true) (eq-eqb _ _ c.if-digits-eq48.true)))
 
 pub returns : goal.returns
 returns c =

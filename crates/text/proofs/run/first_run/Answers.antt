@@ -1,6 +1,6 @@
 use Rattle.std.proofs.Common.{◌≡◌, ℕ, ◌<◌, List, length, take, drop, sym, ap, ◌∙◌, subst, arith, true-eqb, false-eqb}
 use Rattle.std.proofs.lemmas.List.{nil_from_length}
-use Rattle.std.proofs.lemmas.Bool.{cond_true, cond-false}
+use Rattle.std.proofs.lemmas.Bool.{cond-true, cond-false}
 use Rattle.text.specs.Alphabet.{class}
 use Rattle.text.specs.Runs.{CutOff}
 use Rattle.text.proofs.Cutting.{first_length, first_within, cut_first}
@@ -11,7 +11,7 @@ use Rattle.text.proofs.run.first_run.Goals.{then-joins, else-joins, Joined-joins
 counted : (c : Joined-joins) → c.if-joins.n ≡ first_length c.classify-class.result c.args.bytes.now
 counted c =
     elim c.if-joins.branch [
-      | then-joins w ↦ w.n-is ∙ w.run-length-n.ensures ∙ sym (cond_true _ _ _ (sym c.joins.ensures ∙ w.if-joins.true))
+      | then-joins w ↦ w.n-is ∙ w.run-length-n.ensures ∙ sym (cond-true _ _ _ (sym c.joins.ensures ∙ w.if-joins.true))
       | else-joins w ↦ w.n-is ∙ sym (cond-false _ _ _ (sym c.joins.ensures ∙ w.if-joins.false))
     ]
 

@@ -1,5 +1,5 @@
 use Rattle.std.proofs.Common.{◌≡◌, [], sym, refl, ap, ◌∙◌}
-use Rattle.std.proofs.lemmas.Bool.{cond_true, cond-false, lt-ltb, le-ltb}
+use Rattle.std.proofs.lemmas.Bool.{cond-true, cond-false, lt-ltb, le-ltb}
 use Rattle.text.specs.Script.{readable, lines}
 use Rattle.text.proofs.Splitting.{splits}
 use Rattle.text.proofs.Tokening.{tokens_none}
@@ -10,7 +10,7 @@ pub returns : goal.returns
 returns c =
     let text : c.if-script-gt-LONGEST.text.now ≡ readable c.args.script.now =
     elim c.if-script-gt-LONGEST.branch [
-      | then-script-gt-LONGEST w ↦ ap (λ r. r.now) w.text-is ∙ sym (cond_true _ _ _ (lt-ltb _ _ w.if-script-gt-LONGEST.true))
+      | then-script-gt-LONGEST w ↦ ap (λ r. r.now) w.text-is ∙ sym (cond-true _ _ _ (lt-ltb _ _ w.if-script-gt-LONGEST.true))
       | else-script-gt-LONGEST w ↦ ap (λ r. r.now) w.text-is ∙ sym (cond-false _ _ _ (le-ltb _ _ w.if-script-gt-LONGEST.false))
     ] in
     record {
