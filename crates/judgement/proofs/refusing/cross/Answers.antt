@@ -14,8 +14,8 @@ bounds-table-before c =
     let long = one.long in
     omega arith
 
-pub slice-bounds-copy-from-slice-end : goal.slice-bounds-copy-from-slice-end
-slice-bounds-copy-from-slice-end c =
+pub slice_bounds-copy-from-slice-end : goal.slice_bounds-copy-from-slice-end
+slice_bounds-copy-from-slice-end c =
     let one = c.in-Some-chain.ensures.cases in
     let two = c.in-Some.ensures.cases in
     let f = fits c.args.links.now c.args.near.index c.args.far.index c.args.from.index c.args.to.index c.args.step

@@ -31,4 +31,4 @@ returns g c =
     let old = c.args.from.now in
     let count = ap (λ bytes. length bytes / width codec) c.new-packed.ensures.bytes in
     let all : c.loop-slot.slot ≡ length old / width codec = omega (arith, c.loop-slot.invariant.0, count) in
-    repacked group codec old c.args.to.now c.loop-slot.to (λ k _. (c.type-inv.from k).fits) (subst (Sofar group codec old c.args.to.now c.loop-slot.to) all c.loop-slot.invariant.1)
+    repacked group codec old c.args.to.now c.loop-slot.to (λ k _. (c.type_inv.from k).fits) (subst (Sofar group codec old c.args.to.now c.loop-slot.to) all c.loop-slot.invariant.1)

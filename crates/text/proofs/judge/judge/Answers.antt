@@ -26,11 +26,11 @@ returns-in-err-depth c =
     let stop = judged_stops place c.loop-cut.depth _ _ _ _ c.in-Some.ensures c.in-err-depth.field-0.0 (sym c.in-err-depth.ensures) in
     out.1 ∙ ap Err out.2 ∙ sym stop ∙ c.loop-cut.invariant.2
 
-pub overflow-cast-column : goal.overflow-cast-column
-overflow-cast-column c = let i = c.loop-cut.invariant in let p = parts (goal.at.overflow-cast-column c).In-Some in omega arith
+pub overflow_cast-column : goal.overflow_cast-column
+overflow_cast-column c = let i = c.loop-cut.invariant in let p = parts (goal.at.overflow_cast-column c).In-Some in omega arith
 
-pub overflow-add-column : goal.overflow-add-column
-overflow-add-column c = let i = c.loop-cut.invariant in let p = parts (goal.at.overflow-add-column c).In-Some in omega arith
+pub overflow_add-column : goal.overflow_add-column
+overflow_add-column c = let i = c.loop-cut.invariant in let p = parts (goal.at.overflow_add-column c).In-Some in omega arith
 
 pub loop-cut-smaller : goal.loop-cut-smaller
 loop-cut-smaller c = let p = parts (goal.at.loop-cut-smaller c).In-Some in omega arith

@@ -8,7 +8,7 @@ pub returns : goal.returns
 returns c =
     let row = c.args.row.now in
     let long : length row ≡ 2 = omega arith in
-    let is : number 256 row ≡ c.from-le-bytes.result = number_two 256 row long ∙ sym c.from-le-bytes.ensures in
+    let is : number 256 row ≡ c.from_le_bytes.result = number_two 256 row long ∙ sym c.from_le_bytes.ensures in
     record {
       meant = read_inside (2 ^ 16) (lit< tt) 256 2 row _ long is (omega arith);
       value = rw (eq-eqb (length row) 2 long, is);

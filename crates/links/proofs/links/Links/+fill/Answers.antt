@@ -57,8 +57,8 @@ bounds-table-at t c =
     let kept = c.fill-at.auto.table in
     omega arith
 
-pub offset-bounds-table-at : goal.offset-bounds-table-at
-offset-bounds-table-at t c =
+pub offset_bounds-table-at : goal.offset_bounds-table-at
+offset_bounds-table-at t c =
     let join = c.crossing-join.result in
     let l =
     cut_length c.args.self.now.rows c.args.below c.args.x.index c.args.y.index join.older join.near.index join.far.index join.step
@@ -69,8 +69,8 @@ offset-bounds-table-at t c =
     let small : c.fill-at.result < 1024 = omega arith in
     omega arith
 
-pub overflow-add-at : goal.overflow-add-at
-overflow-add-at t c =
+pub overflow_add-at : goal.overflow_add-at
+overflow_add-at t c =
     let join = c.crossing-join.result in
     let l =
     cut_length c.args.self.now.rows c.args.below c.args.x.index c.args.y.index join.older join.near.index join.far.index join.step

@@ -7,6 +7,7 @@ use Rattle.links.proofs.Sound.{Sound}
 use Rattle.links.proofs.Invariant.{sound}
 use Rattle.links.proofs.Joining.{row_before, two_writes, sizes_fit, sound_joined}
 use Rattle.links.proofs.links.Links.hang.Goals as goal
+use Rattle.links.proofs.links.Links.hang.Goals.{After-grow}
 
 pub grow-requires : goal.grow-requires
 grow-requires c =
@@ -19,7 +20,7 @@ grow-requires c =
     let own = ap (λ (r : Row). r.size) c.row-size.ensures in
     omega arith
 
-hangs_here : (c : goal.After-grow) → Hangs c.args.self.now.rows (set (set c.args.self.now.rows c.index.result c.hang.new.self) c.index-3.result c.grow.new.self)
+hangs_here : (c : After-grow) → Hangs c.args.self.now.rows (set (set c.args.self.now.rows c.index.result c.hang.new.self) c.index-3.result c.grow.new.self)
     c.args.leader.index c.args.under.index c.args.edge
 hangs_here c =
     let rows : List Row = c.args.self.now.rows in
@@ -36,7 +37,7 @@ hangs_here c =
       edge = (row_at (set rows c.index.result c.hang.new.self) c.index-3.result).edge;
     }))
 
-sound_here : (c : goal.After-grow)
+sound_here : (c : After-grow)
     → Sound (set (set c.args.self.now.rows c.index.result c.hang.new.self) c.index-3.result c.grow.new.self) (c.args.self.now.joins + 1)
 sound_here c =
     let links = c.args.self.now in
@@ -44,18 +45,22 @@ sound_here c =
     subst (Sound rows') (sym (add-one links.joins))
     (sound_joined links.rows rows' links.joins c.args.leader.index c.args.under.index c.args.edge (sound links) c.requires (hangs_here c))
 
-pub invariant-of-self : goal.invariant-of-self
-invariant-of-self c =
-    let s = sound_here c in (
-      s.long,
-      (
-        s.inside,
-        (
-          s.few,
-          (
-            s.numbered,
-            (s.rising, (s.bare, (s.own, (s.found, (s.once, (s.near, (s.far, (s.ordered, (s.ended, (s.sized, tt)))))))))),
-          ),
-        ),
-      ),
-    )
+pub invariant_of-self : goal.invariant_of-self
+invariant_of-self c =
+    let s = sound_here c in
+    record {
+      long = s.long;
+      inside = s.inside;
+      few = s.few;
+      numbered = s.numbered;
+      rising = s.rising;
+      bare = s.bare;
+      own = s.own;
+      found = s.found;
+      once = s.once;
+      near = s.near;
+      far = s.far;
+      ordered = s.ordered;
+      ended = s.ended;
+      sized = s.sized;
+    }

@@ -38,11 +38,11 @@ goes c o e =
 pub returns-in-default-token-of : goal.returns-in-default-token-of
 returns-in-default-token-of c = goes (goal.at.returns-in-default-token-of c).In-Some None c.in-default-token-of.ensures
 
-pub overflow-cast-result : goal.overflow-cast-result
-overflow-cast-result c = let pre = c.requires in let f = fits (goal.at.overflow-cast-result c).In-Some in omega arith
+pub overflow_cast-result : goal.overflow_cast-result
+overflow_cast-result c = let pre = c.requires in let f = fits (goal.at.overflow_cast-result c).In-Some in omega arith
 
-pub overflow-add-result : goal.overflow-add-result
-overflow-add-result c = let pre = c.requires in let f = fits (goal.at.overflow-add-result c).In-Some in omega arith
+pub overflow_add-result : goal.overflow_add-result
+overflow_add-result c = let pre = c.requires in let f = fits (goal.at.overflow_add-result c).In-Some in omega arith
 
 pub returns : goal.returns
 returns c =
