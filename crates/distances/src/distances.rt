@@ -17,7 +17,7 @@ pub struct Distances<'a, K> {
 impl<'a, K: Kind> Distances<'a, K> {
     // Distances that are all zero, whatever the table held.
     pub fn open(table: &'a mut [K]) -> Distances<'a, K>
-        ensures zeros { (i : ℕ) → entry group (map meaning result.table.now) i ≡ group.zero }
+        ensures zeros { (i : ℕ) → entry K.group (map K.meaning result.table.now) i ≡ K.group.zero }
         ensures len { length result.table.now ≡ length table.old }
         ensures named { result.table.ghost_name ≡ table.entry.ghost_name }
     {
@@ -33,7 +33,7 @@ impl<'a, K: Kind> Distances<'a, K> {
 
     // The entry of a boundary, zero where the table is too short.
     fn at(&self, b: Boundary) -> K
-        ensures { meaning result ≡ entry group (map meaning self.now.table.now) b.index }
+        ensures { K.meaning result ≡ entry K.group (map K.meaning self.now.table.now) b.index }
     {
         table::at(self.table, b.index() as usize)
     }
@@ -41,7 +41,7 @@ impl<'a, K: Kind> Distances<'a, K> {
     // The leader of `b`, and what to add there to be at `b`.
     pub fn find(&self, links: &Links, b: Boundary) -> (Boundary, K)
         ensures leader { result.0.index ≡ leader_of links.now b.index }
-        ensures value { meaning result.1 ≡ distance group links.now (map meaning self.now.table.now) b.index }
+        ensures value { K.meaning result.1 ≡ distance K.group links.now (map K.meaning self.now.table.now) b.index }
     {
         let mut at = b;
         let mut far = K::zero();
@@ -54,7 +54,7 @@ impl<'a, K: Kind> Distances<'a, K> {
 
     // What lies between two linked boundaries: the sum of every chain from `a` to `b`. None where they are not linked.
     pub fn between(&self, links: &Links, a: Boundary, b: Boundary) -> Option<K>
-        ensures { MatchOption result (Linked (joined links.now) a.index b.index → ⊥) (λ v. Between group links.now (map meaning self.now.table.now) a.index b.index (meaning v)) }
+        ensures { MatchOption result (Linked (joined links.now) a.index b.index → ⊥) (λ v. Between K.group links.now (map K.meaning self.now.table.now) a.index b.index (K.meaning v)) }
     {
         let (low, near) = self.find(links, a);
         let (high, far) = self.find(links, b);
@@ -68,7 +68,7 @@ impl<'a, K: Kind> Distances<'a, K> {
     // Joins (a, b) with its sum: the links join it, and the entry of the leader that was hung is set. A table of fewer than 1,024 entries,
     // a pair that is no range, or one whose ends are linked already joins nothing.
     pub fn join(&mut self, links: &mut Links, a: Boundary, b: Boundary, sum: K) -> Option<Hung>
-        ensures cases { MatchOption result (Untouched links.old links.new self.old.table.now self.new.table.now a.index b.index) (λ h. Laid group meaning links.old links.new self.old.table.now self.new.table.now a.index b.index h.leader.index h.under.index (meaning sum)) }
+        ensures cases { MatchOption result (Untouched links.old links.new self.old.table.now self.new.table.now a.index b.index) (λ h. Laid K.group K.meaning links.old links.new self.old.table.now self.new.table.now a.index b.index h.leader.index h.under.index (K.meaning sum)) }
         ensures stays { self.new.table.ghost_name ≡ self.old.table.ghost_name }
     {
         if self.len() < 1024 {

@@ -6,7 +6,7 @@ use kinds::Kind;
 
 // Makes every entry zero.
 pub fn clear<K: Kind>(table: &mut [K])
-    ensures zeros { (i : ℕ) → entry group (map meaning table.new) i ≡ group.zero }
+    ensures zeros { (i : ℕ) → entry K.group (map K.meaning table.new) i ≡ K.group.zero }
     ensures len { length table.new ≡ length table.old }
 {
     for i in 0..table.len() {
@@ -16,7 +16,7 @@ pub fn clear<K: Kind>(table: &mut [K])
 
 // The entry at a place, zero where the table is too short.
 pub fn at<K: Kind>(table: &[K], i: usize) -> K
-    ensures { meaning result ≡ entry group (map meaning table.now) i }
+    ensures { K.meaning result ≡ entry K.group (map K.meaning table.now) i }
 {
     if i < table.len() { table[i] } else { K::zero() }
 }

@@ -1,11 +1,7 @@
 // The constructors of the stores, each with exactly the log that the store it makes means.
 ghost use Rattle.std.specs.Prelude.{◌≡◌};
-ghost use mir.Syntax.{given};
 ghost use Rattle.stores.specs.Log.{meant};
 ghost use Rattle.stores.specs.Stores.{plain_log, packed_log, window_log};
-ghost use Rattle.stores.specs.contracts.packed.PackedStore.TheImpl.{ghosts as packed-store};
-ghost use Rattle.stores.specs.contracts.plain.PlainStore.TheImpl.{ghosts as plain-store};
-ghost use Rattle.stores.specs.contracts.window.WindowStore.TheImpl.{ghosts as window-store};
 
 use crate::packed::Packed;
 use crate::plain::Plain;
@@ -17,7 +13,7 @@ use std::marker::PhantomData;
 impl<'a, K: Kind> Plain<'a, K> {
     // A list of values and a list of mark bytes.
     pub fn new(values: &'a [K], marks: &'a [u8]) -> Plain<'a, K>
-        ensures means { (plain-store K.row K.Kind (given 0)).log result ≡ plain_log (K.Kind.held K.Kind.group.zero) values.now marks.now }
+        ensures means { ⟦<Plain<'a, K> as Store<K>>⟧.log result ≡ plain_log (K.Kind.held K.Kind.group.zero) values.now marks.now }
         ensures values { result.values.now ≡ values.now }
         ensures marks { result.marks.now ≡ marks.now }
     {
@@ -28,7 +24,7 @@ impl<'a, K: Kind> Plain<'a, K> {
 impl<'a, K: Kind> Packed<'a, K> {
     // A record for each slot.
     pub fn new(bytes: &'a [u8]) -> Packed<'a, K>
-        ensures means { (packed-store K.row K.Kind (given 0)).log result ≡ meant K.Kind.held (packed_log K.Kind.group K.Kind.bytes bytes.now) }
+        ensures means { ⟦<Packed<'a, K> as Store<K>>⟧.log result ≡ meant K.Kind.held (packed_log K.Kind.group K.Kind.bytes bytes.now) }
         ensures bytes { result.bytes.now ≡ bytes.now }
     {
         Packed {
@@ -40,7 +36,7 @@ impl<'a, K: Kind> Packed<'a, K> {
 
 // A part of any store, from a start and as long as it may be.
 pub fn windowed<K: Kind, S: Store<K>>(below: S, start: usize, length: usize) -> Window<S>
-    ensures means { (window-store K.row S.row K.Kind (given 0) S.Store (given 1)).log result ≡ window_log (S.Store.log below) start length }
+    ensures means { ⟦<Window<S> as Store<K>>⟧.log result ≡ window_log (S.Store.log below) start length }
     ensures parts { result ≡ record { below = below; start = start; length = length } }
 {
     Window::new(below, start, length)

@@ -11,8 +11,8 @@ loop-i-preserved c =
     let blank = c.if-i-gt0.blank.now in
     let way : ((0 < c.loop-i.i) × (blank ≡ 32 ∷ [])) ⊎ ((c.loop-i.i ≡ 0) × (blank ≡ [])) =
     elim c.if-i-gt0.branch [ then-i-gt0 w ↦ inl (omega arith, ap (λ r. r.now) w.blank-is) | else-i-gt0 w ↦ inr (omega arith, ap (λ r. r.now) w.blank-is) ] in
-    c.in-ok-push-str.ensures.bytes
-    ∙ (λ j. c.loop-i.invariant j ++ (c.as-str.ensures.value ∙ c.in-ok-format.ensures.ok) j)
+    c.in_ok-push_str.ensures.bytes
+    ∙ (λ j. c.loop-i.invariant j ++ (c.as_str.ensures.value ∙ c.in_ok-format.ensures.ok) j)
     ∙ spaced_next numbers c.loop-i.i blank (omega arith) way
 
 pub returns : goal.returns

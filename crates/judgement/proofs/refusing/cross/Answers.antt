@@ -14,8 +14,8 @@ bounds-table-before c =
     let long = one.long in
     omega arith
 
-pub slice_bounds-copy-from-slice-end : goal.slice_bounds-copy-from-slice-end
-slice_bounds-copy-from-slice-end c =
+pub slice_bounds-copy_from_slice-end : goal.slice_bounds-copy_from_slice-end
+slice_bounds-copy_from_slice-end c =
     let one = c.in-Some-chain.ensures.cases in
     let two = c.in-Some.ensures.cases in
     let f = fits c.args.links.now c.args.near.index c.args.far.index c.args.from.index c.args.to.index c.args.step
@@ -32,6 +32,6 @@ returns c =
     let two = c.in-Some.ensures.cases in
     crossed c.args.links.now c.args.near.index c.args.far.index c.args.from.index c.args.to.index c.args.step
     c.args.from.below c.args.far.below c.requires c.in-Some-chain.before c.in-Some.after _ c.chain-2.new.table _ c.chain.new.table one two
-    (((c.in-Some-chain.before + 1) + c.in-Some.after) - (c.in-Some-chain.before + 1)) c.copy-from-slice.new.self
-    (c.copy-from-slice.ensures.after ∙ ap (λ (n : ℕ). take n c.chain.new.table) (let z : c.in-Some.after - 0 ≡ c.in-Some.after = omega arith in z))
+    (((c.in-Some-chain.before + 1) + c.in-Some.after) - (c.in-Some-chain.before + 1)) c.copy_from_slice.new.self
+    (c.copy_from_slice.ensures.after ∙ ap (λ (n : ℕ). take n c.chain.new.table) (let z : c.in-Some.after - 0 ≡ c.in-Some.after = omega arith in z))
     (let z : ((c.in-Some-chain.before + 1) + c.in-Some.after) - (c.in-Some-chain.before + 1) ≡ c.in-Some.after = omega arith in z)

@@ -8,26 +8,26 @@ use Rattle.links.proofs.Labels.{linked_sym}
 use Rattle.judgement.proofs.Refused.{linked_none, only_inside, refused_up, refused_down}
 use Rattle.judgement.proofs.refusing.refusal.Goals as goal
 
-pub returns-in-default : goal.returns-in-default
-returns-in-default c =
+pub returns-in_default : goal.returns-in_default
+returns-in_default c =
     record {
       reason =
           inr (λ o.
           let i = (only_inside c.args.links.now (record { low = c.args.low.index; high = c.args.high.index }) c.args.pair.low c.args.pair.high
           c.args.low.below c.args.high.below o).0 in
-          let past = c.in-default.ensures in
+          let past = c.in_default.ensures in
           omega arith);
       same = refl;
     }
 
-pub returns-in-default-new : goal.returns-in-default-new
-returns-in-default-new c =
+pub returns-in_default-new : goal.returns-in_default-new
+returns-in_default-new c =
     record {
       reason =
           inr (λ o.
           let j = (only_inside c.args.links.now (record { low = c.args.low.index; high = c.args.high.index }) c.args.pair.low c.args.pair.high
           c.args.low.below c.args.high.below o).1 in
-          let past = c.in-default-new.ensures in
+          let past = c.in_default-new.ensures in
           omega arith);
       same = refl;
     }

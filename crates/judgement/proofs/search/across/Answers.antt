@@ -3,7 +3,7 @@ use Rattle.std.proofs.Common.{◌≡◌, ℕ, ◌+◌, ◌<◌, ◌≤◌, lengt
 use Rattle.judgement.specs.Search.{places, with_low, pair_across}
 use Rattle.judgement.proofs.Turns.{passed_x, passed_y, places_later, pair_neither, pair_over}
 use Rattle.judgement.proofs.search.across.Goals as goal
-use Rattle.judgement.proofs.search.across.Goals.{then-leaders-i+in-default, else-leaders-i+then-leaders-i-2+in-default-first, else-leaders-i+else-leaders-i-2}
+use Rattle.judgement.proofs.search.across.Goals.{then-leaders-i+in_default, else-leaders-i+then-leaders-i-2+in_default-first, else-leaders-i+else-leaders-i-2}
 
 pub returns-in-Some : goal.returns-in-Some
 returns-in-Some g c =
@@ -42,23 +42,23 @@ loop-i-preserved g c =
     let their-long = c.gathered-theirs.ensures.long in
     let rest = pair_across says c.args.x c.args.y (drop (c.loop-i.i + 1) c.args.leaders.now) (c.loop-i.i + 1) in
     elim c.if-leaders-i.branch [
-      | then-leaders-i+in-default w ↦
+      | then-leaders-i+in_default w ↦
           (let p = passed_x says c.args.x c.args.y c.args.leaders.now c.gathered-ours.result.items c.gathered-theirs.result.items
           c.loop-i.i c.loop-i.our c.loop-i.their within c.requires.apart inv.2 inv.3 w.if-leaders-i.true in (
             omega (arith, w.our-is, p.0),
             omega (arith, w.their-is, inv.1),
             ap (λ (n : ℕ). drop n c.gathered-ours.result.items) w.our-is ∙ p.1,
             ap (λ (n : ℕ). drop n c.gathered-theirs.result.items) w.their-is ∙ p.2,
-            ap (λ (o : Option ℕ). with_low c.loop-i.i o rest) w.in-default.ensures ∙ (sym p.3 ∙ inv.4),
+            ap (λ (o : Option ℕ). with_low c.loop-i.i o rest) w.in_default.ensures ∙ (sym p.3 ∙ inv.4),
           ))
-      | else-leaders-i+then-leaders-i-2+in-default-first w ↦
+      | else-leaders-i+then-leaders-i-2+in_default-first w ↦
           (let p = passed_y says c.args.x c.args.y c.args.leaders.now c.gathered-ours.result.items c.gathered-theirs.result.items
           c.loop-i.i c.loop-i.our c.loop-i.their within c.requires.apart inv.2 inv.3 w.if-leaders-i.false w.if-leaders-i-2.true in (
             omega (arith, w.our-is, inv.0),
             omega (arith, w.their-is, p.0),
             ap (λ (n : ℕ). drop n c.gathered-ours.result.items) w.our-is ∙ p.1,
             ap (λ (n : ℕ). drop n c.gathered-theirs.result.items) w.their-is ∙ p.2,
-            ap (λ (o : Option ℕ). with_low c.loop-i.i o rest) w.in-default-first.ensures ∙ (sym p.3 ∙ inv.4),
+            ap (λ (o : Option ℕ). with_low c.loop-i.i o rest) w.in_default-first.ensures ∙ (sym p.3 ∙ inv.4),
           ))
       | else-leaders-i+else-leaders-i-2 w ↦ (
         omega (arith, w.our-is, inv.0),

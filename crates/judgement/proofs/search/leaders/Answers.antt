@@ -4,7 +4,7 @@ use Rattle.std.proofs.lemmas.List.{length-set}
 use Rattle.links.specs.Joined.{leader_of}
 use Rattle.judgement.proofs.Turns.{set_below}
 use Rattle.judgement.proofs.search.leaders.Goals as goal
-use Rattle.judgement.proofs.search.leaders.Goals.{in-Some, in-default}
+use Rattle.judgement.proofs.search.leaders.Goals.{in-Some, in_default}
 
 pub loop-i-preserved : goal.loop-i-preserved
 loop-i-preserved c =
@@ -18,5 +18,5 @@ loop-i-preserved c =
             (set_below c.loop-i.leaders (leader_of c.args.links.now) c.loop-i.i w.index.result (omega arith) inv.1
             (w.index.ensures.value ∙ (w.leader.ensures.value ∙ ap (leader_of c.args.links.now) w.in-Some.ensures))),
       )
-      | in-default w ↦ absurd (omega (arith, w.in-default.ensures))
+      | in_default w ↦ absurd (omega (arith, w.in_default.ensures))
     ]

@@ -25,17 +25,17 @@ told kind codec meaning low high table {buf} {now} {r} a is w fits =
 pub returns-in-Released : goal.returns-in-Released
 returns-in-Released g c =
     let codec = g.K.Kind.numbers in
-    told c.args.kind codec g.K.Kind.meaning c.args.low c.args.high c.args.table.now _ c.in-Released.is c.sum-line.ensures.text (λ _. sum_long c.args.kind codec c.args.low c.args.high _ c.sum-line.ensures.few)
+    told c.args.kind codec g.K.Kind.meaning c.args.low c.args.high c.args.table.now _ c.in-Released.is c.sum_line.ensures.text (λ _. sum_long c.args.kind codec c.args.low c.args.high _ c.sum_line.ensures.few)
 
 pub returns-in-Withheld : goal.returns-in-Withheld
 returns-in-Withheld g c =
-    told c.args.kind g.K.Kind.numbers g.K.Kind.meaning c.args.low c.args.high c.args.table.now _ c.in-Withheld.is (called (ap (withheld_line c.args.low c.args.high c.in-Withheld.pair) c.first.ensures) c.withheld-line.ensures) (withheld_long c.args.low c.args.high c.in-Withheld.pair _)
+    told c.args.kind g.K.Kind.numbers g.K.Kind.meaning c.args.low c.args.high c.args.table.now _ c.in-Withheld.is (called (ap (withheld_line c.args.low c.args.high c.in-Withheld.pair) c.first.ensures) c.withheld_line.ensures) (withheld_long c.args.low c.args.high c.in-Withheld.pair _)
 
 pub returns-in-LostSlot : goal.returns-in-LostSlot
 returns-in-LostSlot g c =
-    told c.args.kind g.K.Kind.numbers g.K.Kind.meaning c.args.low c.args.high c.args.table.now _ c.in-LostSlot.is c.put-form.ensures (λ _. lost_long c.args.low c.args.high _)
+    told c.args.kind g.K.Kind.numbers g.K.Kind.meaning c.args.low c.args.high c.args.table.now _ c.in-LostSlot.is c.put_form.ensures (λ _. lost_long c.args.low c.args.high _)
 
 pub returns-in-Refused : goal.returns-in-Refused
 returns-in-Refused g c =
     let named = ap (λ n. form_text (codes "(refused") (c.args.low ∷ c.args.high ∷ n ∷ []) (codes ")\n")) c.number.ensures in
-    told c.args.kind g.K.Kind.numbers g.K.Kind.meaning c.args.low c.args.high c.args.table.now _ c.in-Refused.is (called named c.put-form-in-Refused.ensures) (λ _. refused_long c.args.low c.args.high _)
+    told c.args.kind g.K.Kind.numbers g.K.Kind.meaning c.args.low c.args.high c.args.table.now _ c.in-Refused.is (called named c.put_form-in-Refused.ensures) (λ _. refused_long c.args.low c.args.high _)

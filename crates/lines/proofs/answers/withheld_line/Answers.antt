@@ -2,17 +2,17 @@ use Rattle.std.proofs.Common.{refl}
 use Rattle.lines.proofs.Placing.{stopped, went_on, went_over}
 use Rattle.lines.proofs.answers.withheld_line.Goals as goal
 
-pub returns-in-err-opened : goal.returns-in-err-opened
-returns-in-err-opened c = stopped _ c.from-residual.ensures (stopped _ refl c.in-err-opened.ensures)
+pub returns-in_err-opened : goal.returns-in_err-opened
+returns-in_err-opened c = stopped _ c.from-residual.ensures (stopped _ refl c.in_err-opened.ensures)
 
-pub returns-in-err-chained : goal.returns-in-err-chained
-returns-in-err-chained c =
-    stopped _ c.from-residual-in-err-chained.ensures (went_over refl c.in-ok-opened.ensures c.in-err-chained.ensures)
+pub returns-in_err-chained : goal.returns-in_err-chained
+returns-in_err-chained c =
+    stopped _ c.from-residual-in_err-chained.ensures (went_over refl c.in_ok-opened.ensures c.in_err-chained.ensures)
 
-pub returns-in-err-put : goal.returns-in-err-put
-returns-in-err-put c =
-    went_over c.from-residual-in-err-put.ensures (went_on c.in-ok-opened.ensures c.in-ok-chained.ensures) c.in-err-put.ensures
+pub returns-in_err-put : goal.returns-in_err-put
+returns-in_err-put c =
+    went_over c.from-residual-in_err-put.ensures (went_on c.in_ok-opened.ensures c.in_ok-chained.ensures) c.in_err-put.ensures
 
 pub returns : goal.returns
 returns c =
-    went_on (went_on c.in-ok-opened.ensures c.in-ok-chained.ensures) c.in-ok-put.ensures
+    went_on (went_on c.in_ok-opened.ensures c.in_ok-chained.ensures) c.in_ok-put.ensures

@@ -12,17 +12,17 @@ both line column layer n word is =
     let place = form_text (codes "(fault") (line ∷ column ∷ []) (codes " ") in
     ap (λ w. place ++ form_text w (n ∷ []) (codes ")\n")) is ∙ form_after place (layer_word layer) (n ∷ []) (codes ")\n")
 
-pub returns-in-err-placed : goal.returns-in-err-placed
-returns-in-err-placed c =
-    let w : Wrote (fault_line c.args.line c.args.column c.args.layer c.args.number) _ _ _ = stopped _ c.from-residual.ensures (stopped _ refl (stopped _ refl c.in-err-placed.ensures)) in
+pub returns-in_err-placed : goal.returns-in_err-placed
+returns-in_err-placed c =
+    let w : Wrote (fault_line c.args.line c.args.column c.args.layer c.args.number) _ _ _ = stopped _ c.from-residual.ensures (stopped _ refl (stopped _ refl c.in_err-placed.ensures)) in
     record { text = w; whole = whole w (fault_long c.args.line c.args.column c.args.layer c.args.number) }
 
-pub returns-in-err-put-form : goal.returns-in-err-put-form
-returns-in-err-put-form c =
-    let w = called (both c.args.line c.args.column c.args.layer c.args.number _ c.word.ensures) (went_over c.from-residual-in-err-put-form.ensures c.in-ok-placed.ensures c.in-err-put-form.ensures) in
+pub returns-in_err-put_form : goal.returns-in_err-put_form
+returns-in_err-put_form c =
+    let w = called (both c.args.line c.args.column c.args.layer c.args.number _ c.word.ensures) (went_over c.from-residual-in_err-put_form.ensures c.in_ok-placed.ensures c.in_err-put_form.ensures) in
     record { text = w; whole = whole w (fault_long c.args.line c.args.column c.args.layer c.args.number) }
 
 pub returns : goal.returns
 returns c =
-    let w = called (both c.args.line c.args.column c.args.layer c.args.number _ c.word.ensures) (went_on c.in-ok-placed.ensures c.in-ok-put-form.ensures) in
+    let w = called (both c.args.line c.args.column c.args.layer c.args.number _ c.word.ensures) (went_on c.in_ok-placed.ensures c.in_ok-put_form.ensures) in
     record { text = w; whole = whole w (fault_long c.args.line c.args.column c.args.layer c.args.number) }

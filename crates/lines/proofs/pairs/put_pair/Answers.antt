@@ -9,13 +9,13 @@ both : (opening : List ℕ) (low high : ℕ) (p : Range) (closing : List ℕ) �
 both opening low high p closing =
     sym (append_assoc (form_text opening (low ∷ high ∷ []) (codes " (range")) (numbers (p.low ∷ p.high ∷ [])) closing)
 
-pub returns-in-err-opened : goal.returns-in-err-opened
-returns-in-err-opened c = stopped _ c.from-residual.ensures (stopped _ refl c.in-err-opened.ensures)
+pub returns-in_err-opened : goal.returns-in_err-opened
+returns-in_err-opened c = stopped _ c.from-residual.ensures (stopped _ refl c.in_err-opened.ensures)
 
-pub returns-in-err-put-form : goal.returns-in-err-put-form
-returns-in-err-put-form c =
-    called (both c.args.opening.now c.args.low c.args.high c.args.pair c.args.closing.now) (went_over c.from-residual-in-err-put-form.ensures c.in-ok-opened.ensures c.in-err-put-form.ensures)
+pub returns-in_err-put_form : goal.returns-in_err-put_form
+returns-in_err-put_form c =
+    called (both c.args.opening.now c.args.low c.args.high c.args.pair c.args.closing.now) (went_over c.from-residual-in_err-put_form.ensures c.in_ok-opened.ensures c.in_err-put_form.ensures)
 
 pub returns : goal.returns
 returns c =
-    called (both c.args.opening.now c.args.low c.args.high c.args.pair c.args.closing.now) (went_on c.in-ok-opened.ensures c.in-ok-put-form.ensures)
+    called (both c.args.opening.now c.args.low c.args.high c.args.pair c.args.closing.now) (went_on c.in_ok-opened.ensures c.in_ok-put_form.ensures)

@@ -2,22 +2,22 @@ use Rattle.std.proofs.Common.{refl}
 use Rattle.lines.proofs.Placing.{called, stopped, went_on, went_over}
 use Rattle.lines.proofs.sums.put_sum.Goals as goal
 
-pub returns-in-err-opened : goal.returns-in-err-opened
-returns-in-err-opened c =
-    stopped _ c.from-residual.ensures (stopped _ refl (stopped _ refl c.in-err-opened.ensures))
+pub returns-in_err-opened : goal.returns-in_err-opened
+returns-in_err-opened c =
+    stopped _ c.from-residual.ensures (stopped _ refl (stopped _ refl c.in_err-opened.ensures))
 
-pub returns-in-err-named : goal.returns-in-err-named
-returns-in-err-named c =
-    stopped _ c.from-residual-in-err-named.ensures (stopped _ refl (went_over refl c.in-ok-opened.ensures (called c.word.ensures c.in-err-named.ensures)))
+pub returns-in_err-named : goal.returns-in_err-named
+returns-in_err-named c =
+    stopped _ c.from-residual-in_err-named.ensures (stopped _ refl (went_over refl c.in_ok-opened.ensures (called c.word.ensures c.in_err-named.ensures)))
 
-pub returns-in-err-listed : goal.returns-in-err-listed
-returns-in-err-listed c =
-    stopped _ c.from-residual-in-err-listed.ensures (went_over refl (went_on c.in-ok-opened.ensures (called c.word.ensures c.in-ok-named.ensures)) c.in-err-listed.ensures)
+pub returns-in_err-listed : goal.returns-in_err-listed
+returns-in_err-listed c =
+    stopped _ c.from-residual-in_err-listed.ensures (went_over refl (went_on c.in_ok-opened.ensures (called c.word.ensures c.in_ok-named.ensures)) c.in_err-listed.ensures)
 
-pub returns-in-err-put : goal.returns-in-err-put
-returns-in-err-put c =
-    went_over c.from-residual-in-err-put.ensures (went_on (went_on c.in-ok-opened.ensures (called c.word.ensures c.in-ok-named.ensures)) c.in-ok-listed.ensures) c.in-err-put.ensures
+pub returns-in_err-put : goal.returns-in_err-put
+returns-in_err-put c =
+    went_over c.from-residual-in_err-put.ensures (went_on (went_on c.in_ok-opened.ensures (called c.word.ensures c.in_ok-named.ensures)) c.in_ok-listed.ensures) c.in_err-put.ensures
 
 pub returns : goal.returns
 returns c =
-    went_on (went_on (went_on c.in-ok-opened.ensures (called c.word.ensures c.in-ok-named.ensures)) c.in-ok-listed.ensures) c.in-ok-put.ensures
+    went_on (went_on (went_on c.in_ok-opened.ensures (called c.word.ensures c.in_ok-named.ensures)) c.in_ok-listed.ensures) c.in_ok-put.ensures

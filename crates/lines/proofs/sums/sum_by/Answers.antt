@@ -6,4 +6,4 @@ use Rattle.lines.proofs.sums.sum_by.Goals as goal
 
 pub returns : goal.returns
 returns g c =
-    called (ap (sum_text c.args.kind c.args.low c.args.high) (c.write-numbers.ensures.after ∙ cond-true _ _ _ (eq-eqb _ _ c.requires))) c.put-sum.ensures
+    called (ap (sum_text c.args.kind c.args.low c.args.high) (c.write_numbers.ensures.after ∙ cond-true _ _ _ (eq-eqb _ _ c.requires))) c.put_sum.ensures

@@ -8,14 +8,14 @@ returns-then-n-lt10 t c =
     let small = c.if-n-lt10.true in
     called (ap (λ d. (48 + d) ∷ []) (mod-eq_of_lt small) ∙ sym (decimal_digit c.args.n small)) c.put.ensures
 
-pub returns-in-err-front : goal.returns-in-err-front
-returns-in-err-front t c =
-    called (sym (decimal_step c.args.n (omega arith) (omega arith))) (stopped _ c.from-residual.ensures c.in-err-front.ensures)
+pub returns-in_err-front : goal.returns-in_err-front
+returns-in_err-front t c =
+    called (sym (decimal_step c.args.n (omega arith) (omega arith))) (stopped _ c.from-residual.ensures c.in_err-front.ensures)
 
-pub returns-in-err-put : goal.returns-in-err-put
-returns-in-err-put t c =
-    called (sym (decimal_step c.args.n (omega arith) (omega arith))) (went_over c.from-residual-in-err-put.ensures c.in-ok-front.ensures c.in-err-put.ensures)
+pub returns-in_err-put : goal.returns-in_err-put
+returns-in_err-put t c =
+    called (sym (decimal_step c.args.n (omega arith) (omega arith))) (went_over c.from-residual-in_err-put.ensures c.in_ok-front.ensures c.in_err-put.ensures)
 
 pub returns : goal.returns
 returns t c =
-    called (sym (decimal_step c.args.n (omega arith) (omega arith))) (went_on c.in-ok-front.ensures c.in-ok-put.ensures)
+    called (sym (decimal_step c.args.n (omega arith) (omega arith))) (went_on c.in_ok-front.ensures c.in_ok-put.ensures)

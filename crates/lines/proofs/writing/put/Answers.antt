@@ -9,7 +9,7 @@ returns-then-text-room c =
     let out = c.args.out.now in
     record {
       value = sym (filled_none text out c.if-text-room.true);
-      left = c.copy-from-slice.ensures.after ∙ ap (λ n. take n text) (sub-zero (length out)) ∙ sym (placed_cut text out (omega arith));
+      left = c.copy_from_slice.ensures.after ∙ ap (λ n. take n text) (sub-zero (length out)) ∙ sym (placed_cut text out (omega arith));
     }
 
 pub returns : goal.returns
@@ -18,5 +18,5 @@ returns c =
     let out = c.args.out.now in
     record {
       value = sym (filled_some text out c.if-text-room.false);
-      left = ap (λ x. x ++ drop (length text - 0) out) c.copy-from-slice-2.ensures.after ∙ ap (λ n. text ++ drop n out) (sub-zero (length text)) ∙ sym (placed_whole text out c.if-text-room.false);
+      left = ap (λ x. x ++ drop (length text - 0) out) c.copy_from_slice-2.ensures.after ∙ ap (λ n. text ++ drop n out) (sub-zero (length text)) ∙ sym (placed_whole text out c.if-text-room.false);
     }

@@ -18,25 +18,25 @@ fits ts xs e few w =
     let long = answered_length ends_of ts xs e in
     whole w (rehearsals_fit (answered (map ends_of ts) xs) (omega arith))
 
-pub returns-in-err-begun : goal.returns-in-err-begun
-returns-in-err-begun g c =
-    let w : Wrote (rehearsed_line (answered (map ends_of c.args.tries.now) c.args.trials.now)) _ _ _ = stopped (codes ")\n") c.from-residual.ensures (stopped (flat_map tried_text (answered (map ends_of c.args.tries.now) c.args.trials.now)) refl c.in-err-begun.ensures) in
+pub returns-in_err-begun : goal.returns-in_err-begun
+returns-in_err-begun g c =
+    let w : Wrote (rehearsed_line (answered (map ends_of c.args.tries.now) c.args.trials.now)) _ _ _ = stopped (codes ")\n") c.from-residual.ensures (stopped (flat_map tried_text (answered (map ends_of c.args.tries.now) c.args.trials.now)) refl c.in_err-begun.ensures) in
     record { text = w; whole = fits c.args.tries.now c.args.trials.now c.requires.each c.requires.few w }
 
-pub returns-in-err-listed : goal.returns-in-err-listed
-returns-in-err-listed g c =
+pub returns-in_err-listed : goal.returns-in_err-listed
+returns-in_err-listed g c =
     let w : Wrote (rehearsed_line (answered (map ends_of c.args.tries.now) c.args.trials.now)) _ _ _ =
-    stopped (codes ")\n") c.from-residual-in-err-listed.ensures (went_over refl c.in-ok-begun.ensures c.in-err-listed.ensures) in
+    stopped (codes ")\n") c.from-residual-in_err-listed.ensures (went_over refl c.in_ok-begun.ensures c.in_err-listed.ensures) in
     record { text = w; whole = fits c.args.tries.now c.args.trials.now c.requires.each c.requires.few w }
 
-pub returns-in-err-end-rehearsed : goal.returns-in-err-end-rehearsed
-returns-in-err-end-rehearsed g c =
+pub returns-in_err-end_rehearsed : goal.returns-in_err-end_rehearsed
+returns-in_err-end_rehearsed g c =
     let w : Wrote (rehearsed_line (answered (map ends_of c.args.tries.now) c.args.trials.now)) _ _ _ =
-    went_over c.from-residual-in-err-end-rehearsed.ensures (went_on c.in-ok-begun.ensures c.in-ok-listed.ensures) c.in-err-end-rehearsed.ensures.text in
+    went_over c.from-residual-in_err-end_rehearsed.ensures (went_on c.in_ok-begun.ensures c.in_ok-listed.ensures) c.in_err-end_rehearsed.ensures.text in
     record { text = w; whole = fits c.args.tries.now c.args.trials.now c.requires.each c.requires.few w }
 
 pub returns : goal.returns
 returns g c =
     let w : Wrote (rehearsed_line (answered (map ends_of c.args.tries.now) c.args.trials.now)) _ _ _ =
-    went_on (went_on c.in-ok-begun.ensures c.in-ok-listed.ensures) c.in-ok-end-rehearsed.ensures.text in
+    went_on (went_on c.in_ok-begun.ensures c.in_ok-listed.ensures) c.in_ok-end_rehearsed.ensures.text in
     record { text = w; whole = fits c.args.tries.now c.args.trials.now c.requires.each c.requires.few w }

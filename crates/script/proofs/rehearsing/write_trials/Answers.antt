@@ -9,17 +9,17 @@ use Rattle.script.proofs.rehearsing.write_trials.Goals as goal
 pub loop-i-init : goal.loop-i-init
 loop-i-init g c = begun _
 
-pub returns-in-err-len : goal.returns-in-err-len
-returns-in-err-len g c =
+pub returns-in_err-len : goal.returns-in_err-len
+returns-in_err-len g c =
     let long = answered_length ends_of c.args.tries.now c.args.trials.now c.requires in
     turned_over tried_text (answered (map ends_of c.args.tries.now) c.args.trials.now) c.loop-i.i no_try (omega arith) c.from-residual.ensures c.loop-i.invariant
-    (called (tried_here c.args.tries.now c.args.trials.now c.loop-i.i c.index-tries-i.result _ no_try c.requires (omega arith) c.index-tries-i.is) c.in-err-len.ensures.text)
+    (called (tried_here c.args.tries.now c.args.trials.now c.loop-i.i c.index-tries-i.result _ no_try c.requires (omega arith) c.index-tries-i.is) c.in_err-len.ensures.text)
 
 pub loop-i-preserved : goal.loop-i-preserved
 loop-i-preserved g c =
     let long = answered_length ends_of c.args.tries.now c.args.trials.now c.requires in
     turned tried_text (answered (map ends_of c.args.tries.now) c.args.trials.now) c.loop-i.i no_try (omega arith) c.loop-i.invariant
-    (called (tried_here c.args.tries.now c.args.trials.now c.loop-i.i c.index-tries-i.result _ no_try c.requires (omega arith) c.index-tries-i.is) c.in-ok-len.ensures.text)
+    (called (tried_here c.args.tries.now c.args.trials.now c.loop-i.i c.index-tries-i.result _ no_try c.requires (omega arith) c.index-tries-i.is) c.in_ok-len.ensures.text)
 
 pub returns : goal.returns
 returns g c =

@@ -20,9 +20,9 @@ loop-slot-preserved g c =
     let within : slot < log.slots = omega arith in
     let entry = c.listed-value.result in
     let values : vec_items c.push.new.self ≡ vec_items c.loop-slot.values ++ entry.0 ∷ [] =
-    pushed (entry.0 ∷ []) refl c.in-ok-push.was c.push.ensures.items in
+    pushed (entry.0 ∷ []) refl c.in_ok-push.was c.push.ensures.items in
     let marks : vec_items c.push-in-loop-slot.new.self ≡ vec_items c.loop-slot.marks ++ entry.1 ∷ [] =
-    pushed (entry.1 ∷ []) refl c.in-ok-push-2.was c.push-in-loop-slot.ensures.items in
+    pushed (entry.1 ∷ []) refl c.in_ok-push-2.was c.push-in-loop-slot.ensures.items in
     let is = c.listed-value.ensures ∙ ap kept_or_missing c.read.ensures ∙ listed_inside log slot within in (
       omega arith,
       rw (values, marks) (sofar_more meaning none log (vec_items c.loop-slot.values) (vec_items c.loop-slot.marks) slot entry.0 entry.1 c.loop-slot.invariant.1 is),

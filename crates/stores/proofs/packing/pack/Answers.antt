@@ -14,7 +14,7 @@ returns g c =
     let slot = c.args.slot in
     let at = c.in-Some.at in
     let what = valued_slot g.K.Kind.meaning c.args.what in
-    let size : c.byte-count-size.result ≡ codec.size = c.byte-count-size.ensures in
+    let size : c.byte_count-size.result ≡ codec.size = c.byte_count-size.ensures in
     let found = c.in-Some.ensures in
     let start : at ≡ slot * width codec =
     begins at slot _ _ found.within.1 found.value ∙ ap (λ n. slot * (1 + n)) size in
@@ -22,8 +22,8 @@ returns g c =
     let within : slot < length bytes / width codec = rw (← size) found.within.1 in
     let part : length (take (at + 1 + c.from.result - at) (drop at bytes)) ≡ width codec =
     omega (arith, length-take (at + 1 + c.from.result - at) (drop at bytes), length-drop at bytes, found.within.0) in
-    let row : c.write-record.new.row ≡ packed_record codec what = c.write-record.ensures part in
-    let whole : put_mid at (at + 1 + c.from.result - at) bytes c.write-record.new.row ≡ overwritten bytes (slot * width codec) (packed_record codec what) =
+    let row : c.write_record.new.row ≡ packed_record codec what = c.write_record.ensures part in
+    let whole : put_mid at (at + 1 + c.from.result - at) bytes c.write_record.new.row ≡ overwritten bytes (slot * width codec) (packed_record codec what) =
     (λ i. put_mid (start i) (long i) bytes (row i)) ∙ putMid_overwritten (slot * width codec) (width codec) bytes _ (length_record g.K.Kind.group codec what) in
     let inside = lt-ltb slot (length bytes / width codec) within in
     record {

@@ -18,8 +18,8 @@ loop-slot-preserved g c =
     let read-from = c.new-packed.ensures.bytes in
     let count = ap (λ bytes. length bytes / width codec) read-from in
     let within : slot < length old / width codec = omega (arith, count) in
-    let is : valued_slot meaning c.as-read.result ≡ slot_of (answer (packed_log group codec old) slot) =
-    ap (valued_slot meaning) c.as-read.ensures ∙ slot_of_valued meaning c.read.result ∙ ap slot_of (c.read.ensures.value ∙ ap (λ bytes. answer (packed_log group codec bytes) slot) read-from) in (
+    let is : valued_slot meaning c.as_read.result ≡ slot_of (answer (packed_log group codec old) slot) =
+    ap (valued_slot meaning) c.as_read.ensures ∙ slot_of_valued meaning c.read.result ∙ ap slot_of (c.read.ensures.value ∙ ap (λ bytes. answer (packed_log group codec bytes) slot) read-from) in (
       omega arith,
       subst (λ new. Sofar group codec old c.args.to.now new (slot + 1)) (sym c.pack.ensures.after) (sofar_more group codec old c.args.to.now c.loop-slot.to slot _ c.loop-slot.invariant.1 within is),
     )

@@ -5,16 +5,16 @@ use Rattle.stores.specs.Packing.{packed_record, valued_slot}
 use Rattle.stores.proofs.Overwrites.{marked_row}
 use Rattle.stores.proofs.packing.write_record.Goals as goal
 
-pub returns-else-is-empty : goal.returns-else-is-empty
-returns-else-is-empty g c = λ long.
+pub returns-else-is_empty : goal.returns-else-is_empty
+returns-else-is_empty g c = λ long.
     let row = c.args.row.now in
     let codec = g.K.Kind.bytes in
-    let some : 0 < length row = omega (arith, false-eqb (length row) 0 c.if-is-empty.ensures) in
+    let some : 0 < length row = omega (arith, false-eqb (length row) 0 c.if-is_empty.ensures) in
     let whole = length-set row 0 1 in
     let rest = length-drop 1 (set row 0 1) in
     let part : length (take (length (set row 0 1) - 1) (drop 1 (set row 0 1))) ≡ codec.size =
     omega (arith, length-take (length (set row 0 1) - 1) (drop 1 (set row 0 1))) in
-    let written = c.write-bytes.ensures.after ∙ cond-true _ _ _ (eq-eqb _ codec.size part) in
+    let written = c.write_bytes.ensures.after ∙ cond-true _ _ _ (eq-eqb _ codec.size part) in
     ap (put_mid 1 (length (set row 0 1) - 1) (set row 0 1)) written
     ∙ marked_row row (codec.write (g.K.Kind.meaning c.in-Kept.value)) some
     ∙ sym (ap (λ what. packed_record codec (valued_slot g.K.Kind.meaning what)) c.in-Kept.is)

@@ -16,14 +16,14 @@ open_ended : (p : Place) (d : ℕ) → (d ≡ 0 → ⊥) → ended p d ≡ Err (
 open_ended p zero n = absurd (n refl)
 open_ended p (suc d) n = refl
 
-pub depth-after-requires : goal.depth-after-requires
-depth-after-requires c = let i = c.loop-cut.invariant in let p = parts (goal.at.depth-after-requires c).In-Some in omega arith
+pub depth_after-requires : goal.depth_after-requires
+depth_after-requires c = let i = c.loop-cut.invariant in let p = parts (goal.at.depth_after-requires c).In-Some in omega arith
 
-pub returns-in-err-depth : goal.returns-in-err-depth
-returns-in-err-depth c =
+pub returns-in_err-depth : goal.returns-in_err-depth
+returns-in_err-depth c =
     let out = err_from_is_err_and c.from-residual.result c.from-residual.ensures.1 in
     let place : Place = record { line = c.args.number; column = c.loop-cut.column } in
-    let stop = judged_stops place c.loop-cut.depth _ _ _ _ c.in-Some.ensures c.in-err-depth.field-0.0 (sym c.in-err-depth.ensures) in
+    let stop = judged_stops place c.loop-cut.depth _ _ _ _ c.in-Some.ensures c.in_err-depth.field-0.0 (sym c.in_err-depth.ensures) in
     out.1 ∙ ap Err out.2 ∙ sym stop ∙ c.loop-cut.invariant.2
 
 pub overflow_cast-column : goal.overflow_cast-column
@@ -40,19 +40,19 @@ loop-cut-preserved c =
     let i = c.loop-cut.invariant in
     let p = parts (goal.at.loop-cut-preserved c).In-Some in
     let place : Place = record { line = c.args.number; column = c.loop-cut.column } in
-    let told = sym c.in-ok-depth.ensures in
+    let told = sym c.in_ok-depth.ensures in
     let rises = depth_rises place c.loop-cut.depth c.in-Some.cut.class c.in-Some.cut.run.now _ told in
-    let on = judged_on place c.loop-cut.depth _ _ _ _ c.in-Some.ensures c.in-ok-depth.depth told in
+    let on = judged_on place c.loop-cut.depth _ _ _ _ c.in-Some.ensures c.in_ok-depth.depth told in
     (omega arith, omega arith, sym on ∙ i.2)
 
 pub returns-then-depth-eq0 : goal.returns-then-depth-eq0
 returns-then-depth-eq0 c =
     let place : Place = record { line = c.args.number; column = c.loop-cut.column } in
-    let end = judged_end place c.loop-cut.depth _ c.in-default.ensures in
+    let end = judged_end place c.loop-cut.depth _ c.in_default.ensures in
     sym (ap (ended place) c.if-depth-eq0.true) ∙ sym end ∙ c.loop-cut.invariant.2
 
 pub returns-else-depth-eq0 : goal.returns-else-depth-eq0
 returns-else-depth-eq0 c =
     let place : Place = record { line = c.args.number; column = c.loop-cut.column } in
-    let end = judged_end place c.loop-cut.depth _ c.in-default.ensures in
+    let end = judged_end place c.loop-cut.depth _ c.in_default.ensures in
     sym (open_ended place c.loop-cut.depth c.if-depth-eq0.false) ∙ sym end ∙ c.loop-cut.invariant.2

@@ -11,18 +11,18 @@ use Rattle.text.proofs.run.first_run.Goals.{then-joins, else-joins, Joined-joins
 counted : (c : Joined-joins) → c.if-joins.n ≡ first_length c.classify-class.result c.args.bytes.now
 counted c =
     elim c.if-joins.branch [
-      | then-joins w ↦ w.n-is ∙ w.run-length-n.ensures ∙ sym (cond-true _ _ _ (sym c.joins.ensures ∙ w.if-joins.true))
+      | then-joins w ↦ w.n-is ∙ w.run_length-n.ensures ∙ sym (cond-true _ _ _ (sym c.joins.ensures ∙ w.if-joins.true))
       | else-joins w ↦ w.n-is ∙ sym (cond-false _ _ _ (sym c.joins.ensures ∙ w.if-joins.false))
     ]
 
 some : (c : Joined-joins) → 0 < length c.args.bytes.now
-some c = let n = false-eqb _ 0 c.if-is-empty.ensures in omega arith
+some c = let n = false-eqb _ 0 c.if-is_empty.ensures in omega arith
 
-pub returns-then-is-empty : goal.returns-then-is-empty
-returns-then-is-empty c = nil_from_length _ (true-eqb _ 0 c.if-is-empty.ensures)
+pub returns-then-is_empty : goal.returns-then-is_empty
+returns-then-is_empty c = nil_from_length _ (true-eqb _ 0 c.if-is_empty.ensures)
 
-pub split-at-requires : goal.split-at-requires
-split-at-requires c =
+pub split_at-requires : goal.split_at-requires
+split_at-requires c =
     let e = counted c in
     let w = first_within c.classify-class.result c.args.bytes.now (some c) in
     omega arith
@@ -34,7 +34,7 @@ returns c =
     let bytes = c.args.bytes.now in
     let k = c.classify-class.result in
     let cut = cut_first k bytes (some j) (sym (c.classify-class.ensures ∙ ap class c.from.ensures)) in
-    let front : c.split-at.result.0.now ≡ take (first_length k bytes) bytes = c.split-at.ensures.front ∙ ap (λ n. take n bytes) e in
-    let back : c.split-at.result.1.now ≡ drop (first_length k bytes) bytes = c.split-at.ensures.back ∙ ap (λ n. drop n bytes) e in
+    let front : c.split_at.result.0.now ≡ take (first_length k bytes) bytes = c.split_at.ensures.front ∙ ap (λ n. take n bytes) e in
+    let back : c.split_at.result.1.now ≡ drop (first_length k bytes) bytes = c.split_at.ensures.back ∙ ap (λ n. drop n bytes) e in
     let P : List ℕ → List ℕ → Type 0 = λ x y. CutOff bytes k x y in
-    subst (λ x. P x c.split-at.result.1.now) (sym front) (subst (P (take (first_length k bytes) bytes)) (sym back) cut)
+    subst (λ x. P x c.split_at.result.1.now) (sym front) (subst (P (take (first_length k bytes) bytes)) (sym back) cut)

@@ -20,7 +20,7 @@ loop-up-preserved g c =
 pub returns : goal.returns
 returns g c =
     let table = map g.K.Kind.meaning c.args.self.now.table.now in
-    let top = c.in-default.ensures in
+    let top = c.in_default.ensures in
     record {
       leader = sym top.leader ∙ c.loop-up.invariant.0;
       value =

@@ -7,20 +7,20 @@ use Rattle.dump.proofs.stretch.Stretch.read.Goals as goal
 abbrev Number : List ℕ → Type 0
 Number text = IsNumeral 10 (without_leading_plus text) × (digits_value 10 (without_leading_plus text) < 2 ^ 64)
 
-pub returns-in-default : goal.returns-in-default
-returns-in-default c = λ s spelled. found c.args.text.now spelled.0 spelled.1 s.low spelled.2 c.in-default.ensures.cases
+pub returns-in_default : goal.returns-in_default
+returns-in_default c = λ s spelled. found c.args.text.now spelled.0 spelled.1 s.low spelled.2 c.in_default.ensures.cases
 
-pub returns-in-default-parse : goal.returns-in-default-parse
-returns-in-default-parse c = λ s spelled.
+pub returns-in_default-parse : goal.returns-in_default-parse
+returns-in_default-parse c = λ s spelled.
     let at = c.in-Some.ensures.cases in
     let split = parts c.args.text.now spelled.0 spelled.1 s.low spelled.2 spelled.3 at.0 at.1 at.2.0 at.2.1 in
-    c.in-default-parse.ensures.value.0 (subst Number (sym (at.3 ∙ split.0)) (spelled.3.0, spelled.3.1))
+    c.in_default-parse.ensures.value.0 (subst Number (sym (at.3 ∙ split.0)) (spelled.3.0, spelled.3.1))
 
-pub returns-in-default-parse-2 : goal.returns-in-default-parse-2
-returns-in-default-parse-2 c = λ s spelled.
+pub returns-in_default-parse-2 : goal.returns-in_default-parse-2
+returns-in_default-parse-2 c = λ s spelled.
     let at = c.in-Some.ensures.cases in
     let split = parts c.args.text.now spelled.0 spelled.1 s.low spelled.2 spelled.3 at.0 at.1 at.2.0 at.2.1 in
-    c.in-default-parse-2.ensures.value.0 (subst Number (sym (at.4 ∙ split.1)) (spelled.4.0, spelled.4.1))
+    c.in_default-parse-2.ensures.value.0 (subst Number (sym (at.4 ∙ split.1)) (spelled.4.0, spelled.4.1))
 
 pub returns : goal.returns
 returns c =

@@ -16,10 +16,10 @@ Answer = Result Bool Fault × State
 pub loop-self-init : goal.loop-self-init
 loop-self-init c = (tokens_none _ _ refl, refl)
 
-pub returns-in-err-begin : goal.returns-in-err-begin
-returns-in-err-begin c =
+pub returns-in_err-begin : goal.returns-in_err-begin
+returns-in_err-begin c =
     let out = err_from_is_err_and c.from-residual.result c.from-residual.ensures.1 in
-    let all = sym (at_fault (state c.loop-self.self) (state c.begin.new.self) _ c.in-err-begin.ensures.begun c.in-err-begin.field-0.0 refl) ∙ c.loop-self.invariant.1 in
+    let all = sym (at_fault (state c.loop-self.self) (state c.begin.new.self) _ c.in_err-begin.ensures.begun c.in_err-begin.field-0.0 refl) ∙ c.loop-self.invariant.1 in
     record {
       value = out.1 ∙ ap Err out.2 ∙ ap (λ (a : Answer). a.0) all;
       after = ap (λ (a : Answer). a.1) all;
@@ -28,14 +28,14 @@ returns-in-err-begin c =
 
 pub returns-in-Some : goal.returns-in-Some
 returns-in-Some c =
-    let all = sym (at_tokens (state c.loop-self.self) (state c.begin.new.self) _ c.in-ok-begin.ensures.begun refl _ _ c.in-Some.ensures.is) ∙ c.loop-self.invariant.1 in
+    let all = sym (at_tokens (state c.loop-self.self) (state c.begin.new.self) _ c.in_ok-begin.ensures.begun refl _ _ c.in-Some.ensures.is) ∙ c.loop-self.invariant.1 in
     record { value = ap (λ (a : Answer). a.0) all; after = ap (λ (a : Answer). a.1) all; grammar = grammar }
 
 pub loop-self-preserved : goal.loop-self-preserved
 loop-self-preserved c =
-    let none = c.in-default.ensures in (
+    let none = c.in_default.ensures in (
       none,
-      at_none (state c.loop-self.self) (state c.begin.new.self) _ c.in-ok-begin.ensures.begun refl none ∙ c.loop-self.invariant.1,
+      at_none (state c.loop-self.self) (state c.begin.new.self) _ c.in_ok-begin.ensures.begun refl none ∙ c.loop-self.invariant.1,
     )
 
 pub returns : goal.returns
