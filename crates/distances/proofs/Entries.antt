@@ -1,5 +1,5 @@
 -- What the entries of a table mean, read and written one at a time.
-use Rattle.std.proofs.Common.{◌≡◌, ℕ, ◌<◌, ◌≤◌, ◌⊎◌, List, map, length, get_or, set, sym, ap, ◌∙◌, ⊎_elim, arith}
+use Rattle.std.proofs.Common.{◌≡◌, ℕ, ◌<◌, ◌≤◌, List, map, length, get_or, set, sym, ap, ◌∙◌, arith}
 use Rattle.std.proofs.lemmas.List.{get_or_past, get_or-map, length-map, map-set, get_or-set_same, get_or-set_other}
 use Rattle.kinds.specs.Group.{Group}
 use Rattle.distances.specs.Distance.{entry}

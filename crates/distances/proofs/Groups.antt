@@ -1,5 +1,5 @@
 -- Sums and differences in a commutative group.
-use Rattle.std.proofs.Common.{◌≡◌, sym, refl, ap, ◌∙◌}
+use Rattle.std.proofs.Common.{◌≡◌, sym, ap, ◌∙◌}
 use Rattle.kinds.specs.Group.{Group}
 use Rattle.distances.specs.Distance.{minus}
 

@@ -1,4 +1,6 @@
 // Distances: one value of the kind for each boundary, from which the sums of linked ranges come.
+#![tactic(auto)]
+
 mod distances;
 mod table;
 #[cfg(test)]

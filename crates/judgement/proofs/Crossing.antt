@@ -1,5 +1,5 @@
 -- Two chains with a new step between them are one chain, and it has room in a table of 1,023 steps. Assumes nothing.
-use Rattle.std.proofs.Common.{◌≡◌, ℕ, suc, ◌+◌, ◌-◌, ◌<◌, ◌≤◌, ◌⊎◌, List, [], ◌∷◌, ◌++◌, map, length, take, drop, set, sym, refl, ap, ◌∙◌, subst, inl, inr, arith}
+use Rattle.std.proofs.Common.{◌≡◌, ℕ, suc, ◌+◌, ◌<◌, ◌≤◌, List, [], ◌∷◌, ◌++◌, map, length, take, drop, set, sym, refl, ap, ◌∙◌, subst, arith}
 use borrow.Rule.Slice.PartMut.{put_mid}
 use Rattle.std.proofs.lemmas.List.{append_assoc, length-append, length-take-le, length-drop, length-set, take_more_set, drop-set-lt, drop-drop}
 use Rattle.std.proofs.lemmas.Slice.{take-put_mid, drop-put_mid}
@@ -8,9 +8,9 @@ use Rattle.links.specs.declared.step.Origin.{Origin}
 use Rattle.links.specs.declared.step.Step.{Step}
 use Rattle.links.specs.declared.links.Links.{Links}
 use Rattle.links.specs.Linked.{Linked, Ends}
-use Rattle.links.specs.Chains.{range_of, start, end, Leads, Distinct, Source, Sourced, Chain}
+use Rattle.links.specs.Chains.{range_of, start, end, Leads, Distinct, Source, Chain}
 use Rattle.links.specs.Rings.{Over}
-use Rattle.links.specs.Joined.{joined, leader_of}
+use Rattle.links.specs.Joined.{joined}
 use Rattle.links.specs.Written.{Written}
 use Rattle.links.proofs.Labels.{linked_trans, linked_sym, linked_same}
 use Rattle.links.proofs.Linking.{ends_of}
@@ -18,7 +18,7 @@ use Rattle.links.proofs.Chaining.{Each, each_map, each_append, distinct_append, 
 use Rattle.links.proofs.Chained.{sourced_over}
 use Rattle.links.proofs.Lengths.{AllBelow, distinct_few, length_ends}
 use Rattle.links.proofs.Invariant.{leaders_tell, leader_inside, leader_below}
-use Rattle.judgement.specs.Refusal.{Shown, NewStep, Crossed}
+use Rattle.judgement.specs.Refusal.{NewStep, Crossed}
 
 module _ (js : List Range) where
   step_linked : (s : Step) (ss : List Step) (x : ℕ) → start s ≡ x → Over js (s ∷ ss) → Linked js x (end s)

@@ -1,4 +1,6 @@
 // How a range is judged by the ranges joined so far and a rule, and the chain that a refusal shows. No reading is looked at.
+#![tactic(auto)]
+
 mod finding;
 mod judging;
 mod refusing;

@@ -1,10 +1,10 @@
 -- Held numbers and the residues that they mean, and rows of one, two and four places. Assumes nothing.
-use Rattle.std.specs.Prelude.{◌≡◌, ℕ, ◌+◌, ◌-◌, ◌*◌, ◌%◌, ◌<◌, ◌≤◌, Bool, true, false, cond, ◌&&◌, List, [], ◌∷◌, length, Some, None, Decides, Option, nat_lt, slice_index, refl}
+use Rattle.std.specs.Prelude.{◌≡◌, ℕ, ◌+◌, ◌*◌, ◌%◌, ◌<◌, ◌≤◌, Bool, true, false, cond, ◌&&◌, List, [], ◌∷◌, length, Some, None, Decides, nat_lt, slice_index, refl}
 use Rattle.std.proofs.Common.{sym, ap, ◌∙◌, mod-eq_of_lt, mul-zero, mul_comm, arith, lit<}
 use Rattle.std.proofs.Math.Nat.{mod-mod, add-mod}
 use Rattle.std.specs.Option.{option_map}
 use Rattle.std.proofs.lemmas.Bool.{eq-eqb, lt-ltb, le-ltb, cond-true, cond-false}
-use Rattle.std.proofs.lemmas.Bool.Decides.{Decides-like, Decides-and}
+use Rattle.std.proofs.lemmas.Bool.Decides.{Decides-like}
 use Rattle.kinds.specs.Digits.{number, residue_of}
 use Rattle.kinds.specs.Kinds.{dials_meaning}
 use Rattle.kinds.specs.Pairs.{both}

@@ -1,5 +1,5 @@
 -- The three kinds: their values, how these add, and how they stand as bytes and as numbers. Assumes nothing.
-use Rattle.std.specs.Prelude.{ℕ, ◌^◌}
+use Rattle.std.specs.Prelude.{◌^◌}
 use Rattle.std.proofs.Common.{lit<, lit≤}
 use Rattle.kinds.specs.declared.dials.Dials.{Dials}
 use Rattle.kinds.specs.declared.toggles.Toggles.{Toggles}

@@ -1,4 +1,6 @@
 // Kinds of reading: what a value of each is, how values add, and how they stand as bytes and as numbers.
+#![tactic(auto)]
+
 mod dials;
 mod kind;
 mod toggles;

@@ -1,15 +1,14 @@
 -- The joining releases of links and distances, and how one more joins them. Assumes nothing.
-use Rattle.std.proofs.Common.{◌≡◌, ℕ, ◌<◌, ◌≤◌, Bool, true, false, cond, ◌&&◌, ◌⊎◌, List, [], ◌∷◌, map, length, Some, None, Option, sym, refl, ap, ◌∙◌, subst, inl, inr, ⊎_elim, arith, MatchOption}
+use Rattle.std.proofs.Common.{◌≡◌, ℕ, ◌<◌, ◌≤◌, List, [], ◌∷◌, map, length, Some, None, Option, refl, ap, ⊎_elim, arith, MatchOption}
 use Rattle.kinds.specs.Group.{Group}
 use Rattle.links.specs.declared.links.join.Hung.{Hung}
 use Rattle.links.specs.declared.links.Links.{Links}
 use Rattle.links.specs.declared.step.Range.{Range}
 use Rattle.links.specs.Joined.{joined}
-use Rattle.links.specs.Linked.{Listed, Linked}
-use Rattle.distances.specs.Distance.{amount}
+use Rattle.links.specs.Linked.{Linked}
 use Rattle.distances.specs.Kept.{Laid, Untouched}
 use Rattle.distances.proofs.Releases.{one_release}
-use Rattle.ledger.specs.Machine.{Release, ranges}
+use Rattle.ledger.specs.Machine.{ranges}
 use Rattle.ledger.specs.State.{release_of, releases_of}
 
 module _ {V : Type 0} (G : Group V) where

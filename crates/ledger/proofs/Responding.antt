@@ -1,5 +1,5 @@
 -- A query's answer before and after it is counted, as the machine has it. Assumes nothing.
-use Rattle.std.proofs.Common.{◌≡◌, ℕ, ◌<◌, ◌≤◌, true, cond, eqb, List, map, length, Some, None, Option, sym, refl, ap, ◌∙◌, subst, arith}
+use Rattle.std.proofs.Common.{◌≡◌, ℕ, ◌≤◌, List, length, Some, None, sym, refl, ◌∙◌, subst, arith}
 use Rattle.std.proofs.lemmas.Bool.{eq-eqb, ne_eqb, cond-true, cond-false}
 use Rattle.kinds.specs.Group.{Group}
 use Rattle.links.specs.declared.links.Links.{Links}
@@ -9,7 +9,7 @@ use Rattle.ledger.specs.declared.answer.Answer.{Answer}
 use Rattle.ledger.specs.declared.answer.Counts.{Counts}
 use Rattle.ledger.specs.declared.answer.Fault.{Fault}
 use Rattle.ledger.specs.Answers.{counted, count}
-use Rattle.ledger.specs.Machine.{Ledger, Query, range_fault, fault, leaving, Asked}
+use Rattle.ledger.specs.Machine.{range_fault, fault, Asked}
 use Rattle.ledger.specs.Rules.{Rule}
 use Rattle.ledger.specs.State.{valued_answer, releases_of, state_of, Queried, Settles, Responds}
 

@@ -1,32 +1,28 @@
 -- What the judgement, the distances and the store say together, as the machine has it. Assumes nothing.
-use Rattle.std.proofs.Common.{◌≡◌, ℕ, ◌<◌, ◌≤◌, Bool, true, false, cond, ◌&&◌, eqb, ◌⊎◌, List, [], ◌∷◌, ◌++◌, map, length, take, drop, sym, refl, ap, ◌∙◌, subst, inl, inr, ⊎_elim, arith, take-append-drop, length-take}
+use Rattle.std.proofs.Common.{◌≡◌, ℕ, ◌≤◌, true, false, List, [], ◌∷◌, ◌++◌, map, length, take, drop, sym, refl, ap, ◌∙◌, subst, ⊎_elim, arith, take-append-drop, length-take}
 use Rattle.std.proofs.lemmas.Bool.{cases_Bool, and_parts, and_from, eq-eqb, eqb-true, cond-true, cond-false}
 use Rattle.kinds.specs.Group.{Group}
 use Rattle.links.specs.declared.links.Links.{Links}
-use Rattle.links.specs.declared.step.Origin.{Origin}
-use Rattle.links.specs.declared.step.Origin.TheVariants.{Released, New}
 use Rattle.links.specs.declared.step.Range.{Range}
-use Rattle.links.specs.declared.step.Sign.{Sign}
 use Rattle.links.specs.declared.step.Step.{Step}
-use Rattle.links.specs.Chains.{range_of, Source, Sourced, Chain, Leads}
+use Rattle.links.specs.Chains.{range_of, Source, Sourced}
 use Rattle.links.specs.Joined.{joined}
 use Rattle.links.specs.Linked.{Listed, Linked}
-use Rattle.links.specs.Rings.{Ringless, Earlier}
+use Rattle.links.specs.Rings.{Earlier}
 use Rattle.links.proofs.Chained.{acyclic}
 use Rattle.links.proofs.Paths.{path, released, earlier_path}
 use Rattle.judgement.specs.Judgement.{Newly, Named}
 use Rattle.judgement.specs.Refusal.{Shown}
 use Rattle.stores.specs.Log.{Log}
-use Rattle.stores.specs.Sums.{range_sum, AllKept, LowestLost}
 use Rattle.distances.specs.Distance.{amount, Between}
 use Rattle.distances.specs.Sums.{signed, chain_sum}
 use Rattle.ledger.specs.declared.answer.Answer.{Answer}
 use Rattle.ledger.specs.declared.answer.Counts.{Counts}
 use Rattle.ledger.specs.declared.answer.Fault.{Fault}
 use Rattle.ledger.specs.Judgement.{Verdict, Judged}
-use Rattle.ledger.specs.Machine.{Release, Ledger, ranges, same_range, amount_of, Query, asked, WellFormed, written, leaving, standing, withholding, joining, Asked}
+use Rattle.ledger.specs.Machine.{ranges, same_range, amount_of, Query, asked, WellFormed, written, leaving, standing, joining, Asked}
 use Rattle.ledger.specs.Rules.{Rule}
-use Rattle.ledger.specs.State.{release_of, releases_of, state_of, valued_answer, Freed, IsBetween}
+use Rattle.ledger.specs.State.{releases_of, state_of, valued_answer, Freed, IsBetween}
 use Rattle.ledger.proofs.Releases.{ranges_of}
 
 -- ranges with the same ends are the same

@@ -2,9 +2,7 @@
 use Rattle.std.proofs.Common.{◌≡◌, ℕ, ◌<◌, ◌≤◌, Bool, true, false, cond, eqb, ltb, leb, ◌⊎◌, List, [], ◌∷◌, length, Some, None, Option, sym, refl, subst, inl, inr, arith}
 use Rattle.std.proofs.lemmas.Bool.{ltb-false, leb-false}
 use Rattle.links.specs.declared.step.Range.{Range}
-use Rattle.links.specs.declared.step.Origin.TheVariants.{Released}
 use Rattle.links.specs.Linked.{Listed, Linked}
-use Rattle.links.specs.Rings.{Ringless}
 use Rattle.links.proofs.Labels.{linked_sym, linked_cases}
 use Rattle.kinds.specs.Group.{Group}
 use Rattle.stores.specs.Log.{Log}
@@ -12,10 +10,9 @@ use Rattle.ledger.specs.Rules.{Rule, Protected}
 use Rattle.judgement.specs.Judgement.{Newly}
 use Rattle.ledger.specs.Judgement.{Judged}
 use Rattle.ledger.specs.declared.answer.Fault.{Fault}
-use Rattle.ledger.specs.declared.answer.Answer.{Answer}
 use Rattle.ledger.specs.Answers.{counted}
-use Rattle.ledger.specs.Machine.{Release, Ledger, ranges, Query, asked, WellFormed, Outcome, Asked}
-use Rattle.ledger.specs.Truth.{Within, AmountsTrue, TrueTo}
+use Rattle.ledger.specs.Machine.{Ledger, ranges, Query, asked, WellFormed, Outcome, Asked}
+use Rattle.ledger.specs.Truth.{Within, TrueTo}
 use Rattle.ledger.proofs.Sums.{Upward}
 
 pub some_none : {A : Type 0} (o : Option A) (x : A) → o ≡ Some x → o ≡ None → ⊥

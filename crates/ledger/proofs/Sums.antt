@@ -1,13 +1,11 @@
 -- Sums of stretches as differences of a potential, and readings made from one. Assumes nothing.
-use Rattle.std.proofs.Common.{◌≡◌, ℕ, zero, suc, ◌+◌, ◌-◌, ◌≤◌, cond, List, [], ◌∷◌, sym, refl, ap, ◌∙◌, inl, inr, add-zero, add-suc, zero-add, arith}
-use Rattle.std.proofs.lemmas.Bool.{cond-true, cond-false}
+use Rattle.std.proofs.Common.{◌≡◌, ℕ, zero, suc, ◌+◌, ◌-◌, ◌≤◌, List, [], ◌∷◌, sym, ap, ◌∙◌, add-zero, add-suc, zero-add, arith}
 use Rattle.links.specs.declared.step.Range.{Range}
 use Rattle.links.specs.declared.step.Sign.{Sign}
 use Rattle.links.specs.declared.step.Sign.TheVariants.{Plus, Minus}
 use Rattle.links.specs.declared.step.Step.{Step}
-use Rattle.links.specs.Linked.{Listed, Linked}
+use Rattle.links.specs.Linked.{Listed}
 use Rattle.links.specs.Chains.{start_by, end, Leads}
-use Rattle.links.proofs.Labels.{linked_trans, linked_sym, linked_range, linked?, linked_true, linked_false, linked_cases}
 use Rattle.kinds.specs.Group.{Group}
 use Rattle.stores.specs.Sums.{total, range_sum}
 use Rattle.distances.specs.Sums.{signed, chain_sum}

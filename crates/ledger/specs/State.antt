@@ -13,7 +13,7 @@ use Rattle.distances.specs.Kept.{Laid}
 use Rattle.ledger.specs.declared.answer.Answer.{Answer}
 use Rattle.ledger.specs.declared.answer.Counts.{Counts}
 use Rattle.ledger.specs.Answers.{counted}
-use Rattle.ledger.specs.Machine.{Release, Ledger, Query, WellFormed, Asked, leaving}
+use Rattle.ledger.specs.Machine.{Release, Ledger, WellFormed, Asked, leaving}
 use Rattle.ledger.specs.Rules.{Rule}
 
 -- the rule that a value of a rule's type means

@@ -1,4 +1,6 @@
 // The ledger: which sums of a log are told, and why others are not.
+#![tactic(auto)]
+
 mod amounts;
 mod answer;
 mod ledger;

@@ -1,5 +1,5 @@
 -- Two climbs from boundaries of one set: the lower join number goes first, and where they meet is the newest join on the way.
-use Rattle.std.proofs.Common.{◌≡◌, ℕ, suc, ◌<◌, ◌≤◌, true, false, ◌⊎◌, List, sym, ap, ◌∙◌, ⊎_elim, arith}
+use Rattle.std.proofs.Common.{◌≡◌, ℕ, suc, ◌<◌, ◌≤◌, true, false, List, sym, ap, ◌∙◌, ⊎_elim, arith}
 use Rattle.std.proofs.lemmas.Bool.{cases_lt, cases_eq}
 use Rattle.links.specs.declared.row.Row.{Row}
 use Rattle.links.specs.Rows.{parent_at, number_at, hung, leader_at}

@@ -1,4 +1,6 @@
 // The links of a ledger: which boundaries the released ranges join, and by which chains.
+#![tactic(auto)]
+
 mod boundary;
 mod links;
 mod row;

@@ -1,4 +1,6 @@
 // Protection rules: which ranges of a log must not become known.
+#![tactic(auto)]
+
 ghost use Rattle.std.specs.Prelude.{◌≡◌, ℕ, Bool};
 ghost use Rattle.rules.specs.Ordered.{Ordered};
 

@@ -1,11 +1,10 @@
 -- What one more slot adds to a sum, and what an answer tells of its slot. Assumes nothing.
-use Rattle.std.proofs.Common.{◌≡◌, ℕ, suc, ◌+◌, ◌-◌, ◌<◌, ◌≤◌, true, false, cond, ltb, sym, refl, ap, ◌∙◌, ⊎_elim, arith}
+use Rattle.std.proofs.Common.{◌≡◌, ℕ, suc, ◌+◌, ◌-◌, ◌<◌, ◌≤◌, refl, ap, ◌∙◌, ⊎_elim, arith}
 use native.Mathlib.Nat.{sub_self}
-use Rattle.std.proofs.lemmas.Bool.{lt-ltb, le-ltb, cases_lt, cond-true, cond-false}
+use Rattle.std.proofs.lemmas.Bool.{lt-ltb, cases_lt, cond-true}
 use Rattle.kinds.specs.Group.{Group}
 use Rattle.stores.specs.declared.store.Mark.{Mark}
 use Rattle.stores.specs.declared.store.Mark.TheVariants.{Kept, Lost}
-use Rattle.stores.specs.declared.store.Reading.{Reading}
 use Rattle.stores.specs.declared.store.Reading.TheVariants.{Value, Missing, Outside}
 use Rattle.stores.specs.Log.{Log, told, answer}
 use Rattle.stores.specs.Sums.{total, range_sum}

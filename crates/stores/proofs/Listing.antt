@@ -1,10 +1,9 @@
 -- Listing slot after slot as they answer. Assumes nothing.
-use Rattle.std.proofs.Common.{◌≡◌, ℕ, ◌+◌, ◌<◌, ◌≤◌, min, true, false, cond, ltb, List, [], ◌∷◌, ◌++◌, length, get_or, sym, refl, ap, ◌∙◌, subst, ⊎_elim, arith}
+use Rattle.std.proofs.Common.{◌≡◌, ℕ, ◌+◌, ◌<◌, min, List, [], ◌∷◌, ◌++◌, length, get_or, sym, refl, ap, ◌∙◌, ⊎_elim, arith}
 use Rattle.std.proofs.lemmas.List.{length_push, get_or_push, get_or_append_left}
 use Rattle.std.proofs.lemmas.Bool.{cases_lt, lt-ltb, le-ltb, cond-true, cond-false}
 use Rattle.stores.specs.declared.store.Mark.{Mark}
 use Rattle.stores.specs.declared.store.Mark.TheVariants.{Kept, Lost}
-use Rattle.stores.specs.declared.store.Reading.TheVariants.{Outside}
 use Rattle.stores.specs.Log.{Log, mark_of, told, answer, meant, kept_or_missing, Alike}
 use Rattle.stores.specs.Stores.{plain_log}
 use Rattle.stores.proofs.Records.{answer_inside}

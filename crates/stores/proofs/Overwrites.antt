@@ -1,5 +1,5 @@
 -- What one record written over the bytes of a packed store leaves of the others. Assumes nothing.
-use Rattle.std.proofs.Common.{◌≡◌, ℕ, suc, ◌+◌, ◌-◌, ◌*◌, ◌/◌, ◌<◌, ◌≤◌, List, [], ◌∷◌, ◌++◌, length, get_or, take, drop, set, replicate, Some, None, Option, unwrap_or, sym, refl, ap, ◌∙◌, ⊎_elim, mul-le-mul_right, suc-mul, arith, length-append, length-drop}
+use Rattle.std.proofs.Common.{◌≡◌, ℕ, suc, ◌+◌, ◌-◌, ◌*◌, ◌/◌, ◌<◌, ◌≤◌, List, [], ◌∷◌, ◌++◌, length, take, drop, set, Some, None, Option, unwrap_or, sym, refl, ap, ◌∙◌, ⊎_elim, mul-le-mul_right, suc-mul, arith, length-append, length-drop}
 use borrow.Rule.Slice.PartMut.{put_mid}
 use Rattle.std.proofs.lemmas.List.{append-nil, drop-drop, drop_all, drop_at, take_at, length-take-le, length-replicate, get_or-replicate}
 use Rattle.std.proofs.lemmas.Slice.{between_is, take-put_mid_below, drop-put_mid}
@@ -9,7 +9,7 @@ use Rattle.kinds.specs.Group.{Group}
 use Rattle.stores.specs.declared.packing.Slot.{Slot}
 use Rattle.stores.specs.declared.packing.Slot.TheVariants.{Kept, Lost}
 use Rattle.stores.specs.declared.store.Mark.TheVariants as mark
-use Rattle.stores.specs.Packing.{packed_record, overwritten, ReadsBack, Packed, Same}
+use Rattle.stores.specs.Packing.{packed_record, overwritten, ReadsBack, Packed}
 use Rattle.stores.specs.Stores.{packed_log, width, record_bytes, record_mark, record_reading, mark_with}
 use Rattle.stores.proofs.Records.{record_fits}
 

@@ -1,13 +1,12 @@
 -- Records of one width in a row of bytes. Assumes nothing.
-use Rattle.std.proofs.Common.{◌≡◌, ℕ, suc, ◌+◌, ◌-◌, ◌*◌, ◌/◌, ◌%◌, ◌<◌, ◌≤◌, true, cond, ltb, List, length, get_or, take, drop, Some, None, Option, unwrap_or, sym, refl, ap, ◌∙◌, mul-le-mul_right, suc-mul, arith}
+use Rattle.std.proofs.Common.{◌≡◌, ℕ, suc, ◌+◌, ◌-◌, ◌*◌, ◌/◌, ◌<◌, ◌≤◌, cond, ltb, List, length, get_or, take, drop, Some, None, unwrap_or, sym, ap, ◌∙◌, mul-le-mul_right, suc-mul, arith}
 use Rattle.std.proofs.lemmas.Nat.{div-add-mod'}
 use Rattle.std.proofs.lemmas.List.{take_rest}
 use Rattle.std.proofs.lemmas.Bool.{lt-ltb, cond-true}
 use Rattle.kinds.specs.Codec.{Codec}
 use Rattle.kinds.specs.Group.{Group}
-use Rattle.stores.specs.declared.store.Reading.{Reading}
 use Rattle.stores.specs.declared.store.Reading.TheVariants.{Value, Missing}
-use Rattle.stores.specs.Log.{Log, told, answer, meant}
+use Rattle.stores.specs.Log.{Log, told, answer}
 use Rattle.stores.specs.Stores.{record_mark, record_reading, record_value, mark_with}
 
 -- the record of a slot below len / w ends within len

@@ -1,18 +1,16 @@
 -- Packing slot after slot as they were read. Assumes nothing.
-use Rattle.std.proofs.Common.{◌≡◌, ℕ, suc, ◌+◌, ◌-◌, ◌*◌, ◌/◌, ◌<◌, ◌≤◌, true, false, cond, eqb, ltb, List, [], ◌∷◌, length, get_or, take, drop, replicate, Some, None, Option, unwrap_or, sym, refl, ap, ◌∙◌, subst, ⊎_elim, arith, length-drop, length-take}
+use Rattle.std.proofs.Common.{◌≡◌, ℕ, ◌+◌, ◌*◌, ◌/◌, ◌<◌, eqb, List, [], ◌∷◌, length, get_or, take, drop, Some, None, Option, unwrap_or, sym, refl, ap, ◌∙◌, subst, ⊎_elim, arith, length-drop, length-take}
 use Rattle.std.proofs.lemmas.List.{get_or-take, get_or-drop}
 use Rattle.std.proofs.lemmas.Bool.{cases_lt, cases_Bool, lt-ltb, eqb-true, cond-true, cond-false}
 use Rattle.kinds.specs.Codec.{Codec, Within}
 use Rattle.kinds.specs.Group.{Group}
 use Rattle.stores.specs.declared.packing.Slot.{Slot}
-use Rattle.stores.specs.declared.packing.Slot.TheVariants.{Kept, Lost}
-use Rattle.stores.specs.declared.store.Mark.{Mark}
 use Rattle.stores.specs.declared.store.Mark.TheVariants as mark
 use Rattle.stores.specs.declared.store.Reading.{Reading}
 use Rattle.stores.specs.declared.store.Reading.TheVariants.{Value, Missing, Outside}
-use Rattle.stores.specs.Log.{Log, mark_of, told, answer, valued}
+use Rattle.stores.specs.Log.{told, answer, valued}
 use Rattle.stores.specs.Packing.{packed_record, overwritten, packed, valued_slot, slot_of, Repacked}
-use Rattle.stores.specs.Stores.{packed_log, width, record_bytes, record_value, record_mark, record_reading, mark_with}
+use Rattle.stores.specs.Stores.{packed_log, width, record_bytes, record_value, record_reading, mark_with}
 use Rattle.stores.proofs.Overwrites.{apart, here, elsewhere, past, length_record, length_overwritten}
 use Rattle.stores.proofs.Records.{record_fits, answer_inside}
 

@@ -1,4 +1,6 @@
 // Stores of readings: what each slot of a log holds, kept or lost.
+#![tactic(auto)]
+
 mod lists;
 mod make;
 mod packed;

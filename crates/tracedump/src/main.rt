@@ -1,4 +1,6 @@
 // Prints what the flash bytes of a saved trace hold: `tracedump KIND [LOW..HIGH ..] < BYTES`.
+#![tactic(auto)]
+
 mod compare;
 mod lines;
 mod request;

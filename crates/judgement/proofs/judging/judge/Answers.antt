@@ -1,5 +1,5 @@
 -- Ends with one leader are linked; else the search over the leaders decides.
-use Rattle.std.proofs.Common.{◌≡◌, ◌∙◌}
+use Rattle.std.proofs.Common.{◌∙◌}
 use Rattle.judgement.proofs.Judged.{apart, named, none_newly}
 use Rattle.judgement.proofs.judging.judge.Goals as goal
 

@@ -1,5 +1,5 @@
 -- The two chains and the step between them fit, and are written one after another.
-use Rattle.std.proofs.Common.{◌≡◌, ℕ, ◌+◌, ◌-◌, ◌<◌, ◌≤◌, length, take, set, ap, ◌∙◌, arith}
+use Rattle.std.proofs.Common.{◌≡◌, ℕ, ◌+◌, ◌-◌, ◌≤◌, length, take, set, ap, ◌∙◌, arith}
 use Rattle.std.proofs.lemmas.List.{length-set}
 use Rattle.judgement.proofs.Crossing.{fits, crossed}
 use Rattle.judgement.proofs.refusing.cross.Goals as goal

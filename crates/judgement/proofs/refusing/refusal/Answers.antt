@@ -1,5 +1,5 @@
 -- The side of the pair's low end says which way the step goes.
-use Rattle.std.proofs.Common.{◌≡◌, sym, refl, inr, arith}
+use Rattle.std.proofs.Common.{refl, inr, arith}
 use Rattle.std.proofs.lemmas.Bool.Decides.{not_from_Decides}
 use Rattle.links.specs.Joined.{joined}
 use Rattle.links.specs.declared.step.Sign.TheVariants.{Plus, Minus}

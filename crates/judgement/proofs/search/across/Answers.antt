@@ -1,6 +1,6 @@
 -- Each boundary of either set is paired with what is left of the other.
-use Rattle.std.proofs.Common.{◌≡◌, ℕ, ◌+◌, ◌<◌, ◌≤◌, length, drop, Option, sym, ap, ◌∙◌, subst, arith}
-use Rattle.judgement.specs.Search.{places, with_low, pair_across}
+use Rattle.std.proofs.Common.{ℕ, ◌+◌, ◌<◌, ◌≤◌, length, drop, Option, sym, ap, ◌∙◌, arith}
+use Rattle.judgement.specs.Search.{with_low, pair_across}
 use Rattle.judgement.proofs.Turns.{passed_x, passed_y, places_later, pair_neither, pair_over}
 use Rattle.judgement.proofs.search.across.Goals as goal
 use Rattle.judgement.proofs.search.across.Goals.{then-leaders-i+in_default, else-leaders-i+then-leaders-i-2+in_default-first, else-leaders-i+else-leaders-i-2}

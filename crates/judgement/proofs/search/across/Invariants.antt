@@ -1,5 +1,5 @@
 -- What is left of the two sets stands from `our` and `their` on, and holds the answer.
-use Rattle.std.proofs.Common.{◌≡◌, ◌≤◌, length, drop}
+use Rattle.std.proofs.Common.{◌≡◌, ◌≤◌, drop}
 use Rattle.judgement.specs.Search.{places, pair_across}
 use Rattle.judgement.proofs.search.across.Given as goal
 

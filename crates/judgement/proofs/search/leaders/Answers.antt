@@ -1,5 +1,5 @@
 -- Each number below 1,024 is a boundary, and its leader is written.
-use Rattle.std.proofs.Common.{◌≡◌, ℕ, ◌+◌, ◌<◌, List, length, get_or, set, sym, ap, ◌∙◌, subst, arith}
+use Rattle.std.proofs.Common.{◌≡◌, ℕ, ◌+◌, ◌<◌, List, length, get_or, sym, ap, ◌∙◌, subst, arith}
 use Rattle.std.proofs.lemmas.List.{length-set}
 use Rattle.links.specs.Joined.{leader_of}
 use Rattle.judgement.proofs.Turns.{set_below}

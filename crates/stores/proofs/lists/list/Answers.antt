@@ -1,8 +1,7 @@
-use Rattle.std.proofs.Common.{◌≡◌, ◌+◌, ◌<◌, ◌≤◌, [], ◌∷◌, ◌++◌, vec_items, sym, refl, ap, ◌∙◌, subst, arith}
+use Rattle.std.proofs.Common.{◌≡◌, ◌<◌, [], ◌∷◌, ◌++◌, vec_items, refl, ap, ◌∙◌, subst, arith}
 use Rattle.std.proofs.lemmas.Slice.{pushed}
 use Rattle.stores.specs.Log.{meant, kept_or_missing}
 use Rattle.stores.proofs.Listing.{Sofar, sofar_none, sofar_more, listed_inside, alike}
-use Rattle.stores.proofs.lists.list.Given as given
 use Rattle.stores.proofs.lists.list.Goals as goal
 
 pub loop-slot-init : goal.loop-slot-init

@@ -1,4 +1,4 @@
-use Rattle.std.proofs.Common.{◌≡◌, ◌+◌, ◌/◌, ◌<◌, ◌≤◌, length, sym, refl, ap, ◌∙◌, subst, arith}
+use Rattle.std.proofs.Common.{◌≡◌, ◌+◌, ◌/◌, ◌<◌, length, sym, refl, ap, ◌∙◌, subst, arith}
 use Rattle.stores.specs.Log.{answer}
 use Rattle.stores.specs.Packing.{slot_of, valued_slot}
 use Rattle.stores.specs.Stores.{packed_log, width}

@@ -4,7 +4,6 @@ use Rattle.stores.specs.Log.{Log, meant}
 use Rattle.stores.specs.Sums.{AllKept, range_sum}
 use Rattle.stores.specs.declared.store.Mark.TheVariants.{Kept}
 use Rattle.stores.proofs.Adding.{sum_none, sum_more, value_tells, missing_tells, outside_tells}
-use Rattle.stores.proofs.sums.sum.Given as given
 use Rattle.stores.proofs.sums.sum.Goals as goal
 
 kept_more : {V : Type 0} (log : Log V) (low slot : ℕ) → AllKept log.mark low slot → log.mark slot ≡ Kept → AllKept log.mark low (slot + 1)

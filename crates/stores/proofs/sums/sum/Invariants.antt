@@ -1,4 +1,4 @@
-use Rattle.std.proofs.Common.{◌≡◌, ◌-◌, ◌≤◌}
+use Rattle.std.proofs.Common.{◌≡◌, ◌≤◌}
 use Rattle.stores.specs.Log.{meant}
 use Rattle.stores.specs.Sums.{AllKept, range_sum}
 use Rattle.stores.proofs.sums.sum.Given as goal

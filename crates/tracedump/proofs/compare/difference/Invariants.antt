@@ -1,4 +1,4 @@
-use Rattle.std.proofs.Common.{ℕ, ◌<◌, ◌≤◌}
+use Rattle.std.proofs.Common.{ℕ, ◌<◌}
 use Rattle.stores.specs.Log.{meant}
 use Rattle.tracedump.specs.Compare.{SameAt}
 use Rattle.tracedump.proofs.compare.difference.Given as goal

@@ -1,4 +1,4 @@
-use Rattle.std.proofs.Common.{◌≡◌, ◌+◌, ◌%◌, sym, ◌∙◌, lit<}
+use Rattle.std.proofs.Common.{◌+◌, ◌%◌, sym, lit<}
 use native.Mathlib.Nat.{add-mod}
 use Rattle.kinds.specs.Held.{remainder_means}
 use Rattle.kinds.proofs.dials.DialsKind.plus.Goals as goal

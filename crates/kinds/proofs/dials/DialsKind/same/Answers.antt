@@ -1,6 +1,6 @@
-use Rattle.std.proofs.Common.{◌≡◌, ◌%◌, ◌&&◌, eqb, Decides, ap, lit<}
+use Rattle.std.proofs.Common.{ap, lit<}
 use Rattle.std.proofs.lemmas.Bool.Decides.{Decides-eqb, Decides-and, Decides-like}
-use Rattle.kinds.specs.Kinds.{DialValue, dials_meaning}
+use Rattle.kinds.specs.Kinds.{DialValue}
 use Rattle.kinds.specs.Held.{same_means}
 use Rattle.kinds.proofs.dials.DialsKind.same.Goals as goal
 

@@ -1,4 +1,4 @@
-use Rattle.std.proofs.Common.{◌^◌, refl}
+use Rattle.std.proofs.Common.{refl}
 use lib.Bits.{xor_mod}
 use Rattle.kinds.specs.Residues.{same_residue}
 use Rattle.kinds.proofs.toggles.TogglesKind.plus.Goals as goal

@@ -1,4 +1,4 @@
-use Rattle.std.proofs.Common.{◌≡◌, ◌%◌, ◌^◌, eqb, sym, ◌∙◌, arith, lit<}
+use Rattle.std.proofs.Common.{◌^◌, eqb, arith, lit<}
 use Rattle.std.proofs.lemmas.Bool.Decides.{Decides-eqb, Decides-like}
 use Rattle.kinds.specs.Held.{same_means}
 use Rattle.kinds.proofs.toggles.TogglesKind.same.Goals as goal

@@ -1,8 +1,7 @@
-use Rattle.std.proofs.Common.{◌≡◌, map, length, sym, refl, ap, ◌∙◌, inl, arith}
+use Rattle.std.proofs.Common.{◌≡◌, map, length, sym, refl, ◌∙◌, inl, arith}
 use lib.ListN.{length-map}
 use Rattle.links.proofs.Chained.{acyclic}
 use Rattle.stores.specs.Log.{meant}
-use Rattle.ledger.specs.Answers.{counted}
 use Rattle.ledger.specs.State.{rule_of, valued_answer}
 use Rattle.ledger.proofs.Outcomes.{one_outcome}
 use Rattle.ledger.proofs.Truth.{stays_true}

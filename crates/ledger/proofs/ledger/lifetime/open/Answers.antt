@@ -1,4 +1,4 @@
-use Rattle.std.proofs.Common.{◌≡◌, [], map, length, sym, ap, ◌∙◌, subst}
+use Rattle.std.proofs.Common.{map, sym, ◌∙◌, subst}
 use lib.ListN.{length-map}
 use Rattle.ledger.specs.State.{release_of}
 use Rattle.ledger.specs.Truth.{TrueTo}

@@ -1,7 +1,6 @@
-use Rattle.std.proofs.Common.{◌≡◌, ℕ, map, length, Some, None, sym, refl, ap, ◌∙◌, subst, inl, arith}
+use Rattle.std.proofs.Common.{◌≡◌, map, length, Some, None, sym, refl, ◌∙◌, subst, inl}
 use lib.ListN.{length-map}
 use Rattle.stores.specs.Log.{meant}
-use Rattle.links.specs.declared.step.Range.{Range}
 use Rattle.ledger.specs.Machine.{range_fault}
 use Rattle.ledger.specs.State.{rule_of, valued_answer, SameOrJoined}
 use Rattle.ledger.proofs.Responding.{responds_settled, responds_refused}

@@ -1,4 +1,4 @@
-use Rattle.std.proofs.Common.{◌≡◌, ◌∙◌, inr, arith}
+use Rattle.std.proofs.Common.{◌∙◌, inr, arith}
 use Rattle.stores.specs.Log.{meant}
 use Rattle.stores.specs.Sums.{range_sum}
 use Rattle.ledger.proofs.Releases.{laid_by}

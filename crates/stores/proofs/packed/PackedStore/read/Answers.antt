@@ -1,6 +1,6 @@
-use Rattle.std.proofs.Common.{◌≡◌, ◌+◌, ◌-◌, ◌*◌, ◌/◌, ◌<◌, length, take, drop, sym, ap, ◌∙◌, arith}
-use Rattle.stores.specs.Log.{told, meant, answer}
-use Rattle.stores.specs.Stores.{packed_log, record_bytes, record_mark, record_reading, width}
+use Rattle.std.proofs.Common.{◌≡◌, ◌+◌, ◌-◌, ◌*◌, ◌<◌, take, drop, sym, ap, ◌∙◌, arith}
+use Rattle.stores.specs.Log.{told, meant}
+use Rattle.stores.specs.Stores.{packed_log, record_mark, record_reading, width}
 use Rattle.stores.proofs.Records.{begins, answer_inside}
 use Rattle.stores.proofs.packed.PackedStore.read.Goals as goal
 
