@@ -17,7 +17,7 @@ use Rattle.audit.specs.Runs.{Call, Reply, reply_of, Runs, Place}
 use Rattle.audit.specs.Laws.{veiled, ReadingsUnseen}
 use Rattle.audit.specs.Facts.{OneRun, EveryPlace, queries, answers, RehearsalsIdle}
 use Rattle.ledger.proofs.Verdicts.{verdict, verdict_judged}
-use Rattle.ledger.proofs.Outcomes.{lowest, lowest_reading, settled, answered, asked_settled, asked_answered, asked_only, asked_ringless, rehearsed, rehearsed-there, rehearsed-only}
+use Rattle.ledger.proofs.Outcomes.{lowest, lowest_reading, settled, answered, asked_settled, asked_answered, asked_only, asked_ringless, rehearsed, rehearsed_there, rehearsed_only}
 
 -- the replies to a list of calls, found by search
 unfoldable pub replied : {V : Type 0} → Group V → Log V → Rule → List Call → Ledger V → List (Reply V)
@@ -33,7 +33,7 @@ module _ {V : Type 0} (G : Group V) (log : Log V) (rule : Rule) where
       let a = asked_answered G log rule s q ring in
       let p = run_ended cs (answered G log rule s q).after (asked_ringless G log rule s q ring (answered G log rule s q) a) in
       (p.0, Runs.asks a p.1)
-  run_ended (Call.Rehearse ts ∷ cs) s ring = let p = run_ended cs s ring in (p.0, Runs.rehearses (rehearsed-there ts (ranges s.joined) ring) p.1)
+  run_ended (Call.Rehearse ts ∷ cs) s ring = let p = run_ended cs s ring in (p.0, Runs.rehearses (rehearsed_there ts (ranges s.joined) ring) p.1)
 
   pub run_only : (cs : List Call) (s : Ledger V) → Ringless (ranges s.joined) → (rs rs' : List (Reply V)) (e e' : Ledger V) → Runs G log rule s cs rs e → Runs G log rule s cs rs' e' → (rs ≡ rs') × (e ≡ e')
   run_only [] s ring rs rs' e e' Runs.done Runs.done = (refl, refl)
@@ -42,7 +42,7 @@ module _ {V : Type 0} (G : Group V) (log : Log V) (rule : Rule) where
       let rest = run_only cs o.after (asked_ringless G log rule s q ring o a) us us' e e' p (subst (λ (x : Outcome V). Runs G log rule x.after cs us' e') (sym w) p') in
       (λ i. reply_of (w i) ∷ rest.0 i, rest.1)
   run_only (Call.Rehearse ts ∷ cs) s ring rs rs' e e' (Runs.rehearses {xs = xs} {rs = us} a p) (Runs.rehearses {xs = xs'} {rs = us'} a' p') =
-      let w : xs ≡ xs' = rehearsed-only ts (ranges s.joined) ring xs a ∙ sym (rehearsed-only ts (ranges s.joined) ring xs' a') in
+      let w : xs ≡ xs' = rehearsed_only ts (ranges s.joined) ring xs a ∙ sym (rehearsed_only ts (ranges s.joined) ring xs' a') in
       let rest = run_only cs s ring us us' e e' p p' in
       (λ i. Reply.Tried (w i) s.counts ∷ rest.0 i, rest.1)
 
@@ -133,7 +133,7 @@ unseen_run {V} G log rule r r' (Call.Ask q ∷ cs) s s' t ring rs rs' e e' (Runs
     let tail = unseen_run G log rule r r' cs o.after o'.after next (asked_ringless G (with_readings log r) rule s q ring o a) us us' e e' p p' in
     λ i. head i ∷ tail i
 unseen_run {V} G log rule r r' (Call.Rehearse ts ∷ cs) s s' t ring rs rs' e e' (Runs.rehearses {xs = xs} {rs = us} a p) (Runs.rehearses {xs = xs'} {rs = us'} a' p') =
-    let w : xs ≡ xs' = rehearsed-only ts (ranges s.joined) ring xs a ∙ sym (rehearsed-only ts (ranges s.joined) ring xs' (subst (λ (js : List Range). Rehearsed js ts xs') (sym t.joins) a')) in
+    let w : xs ≡ xs' = rehearsed_only ts (ranges s.joined) ring xs a ∙ sym (rehearsed_only ts (ranges s.joined) ring xs' (subst (λ (js : List Range). Rehearsed js ts xs') (sym t.joins) a')) in
     let c : s.counts ≡ s'.counts = t.tally in
     let tail = unseen_run G log rule r r' cs s s' t ring us us' e e' p p' in
     λ i. Reply.Tried (w i) (c i) ∷ tail i

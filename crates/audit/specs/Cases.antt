@@ -14,7 +14,7 @@ use Rattle.ledger.specs.declared.answer.Counts.{Counts}
 use Rattle.kinds.specs.Group.{Group}
 use Rattle.kinds.specs.Kinds.{wh_group, wh_meaning, wh_held, wh_bytes, toggles_group, dials_group, dials_meaning, dials_held}
 use Rattle.kinds.specs.Residues.{Residue, residue}
-use Rattle.rules.specs.Ordered.{short-ordered, spans_ordered, either_ordered}
+use Rattle.rules.specs.Ordered.{short_ordered, spans_ordered, either_ordered}
 use Rattle.rules.specs.Pairs.{short as short-pairs, spans, either}
 use Rattle.stores.specs.Log.{Log}
 use Rattle.stores.specs.Stores.{packed_log}
@@ -28,11 +28,11 @@ use Rattle.audit.specs.Runs.{Call, Reply, Runs}
 
 -- yes to ranges shorter than k
 abbrev pub short : ℕ → Rule
-short k = rule_of (short-pairs k) (short-ordered k)
+short k = rule_of (short-pairs k) (short_ordered k)
 
 -- yes to ranges shorter than k, and to the span (i, j)
 abbrev pub short_or : ℕ → ℕ → ℕ → Rule
-short_or k i j = rule_of (either (short-pairs k) (spans (record { low = i; high = j } ∷ []))) (either_ordered (short-pairs k) (spans (record { low = i; high = j } ∷ [])) (short-ordered k) (spans_ordered (record { low = i; high = j } ∷ [])))
+short_or k i j = rule_of (either (short-pairs k) (spans (record { low = i; high = j } ∷ []))) (either_ordered (short-pairs k) (spans (record { low = i; high = j } ∷ [])) (short_ordered k) (spans_ordered (record { low = i; high = j } ∷ [])))
 
 -- lost where the test says so
 abbrev lost_at : Bool → Mark

@@ -7,3 +7,4 @@ pub mod Truth
 pub mod Releases
 pub mod Settling
 pub mod Responding
+mod Attempts

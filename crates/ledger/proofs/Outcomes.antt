@@ -1,6 +1,7 @@
--- A query has just one outcome on a ledger whose joining releases close no ring. Assumes nothing.
-use Rattle.std.proofs.Common.{◌≡◌, ℕ, zero, suc, Bool, true, false, ltb, Some, None, Option, sym, refl, ap, ◌∙◌, subst, inl, inr, arith}
+-- Every call has just one outcome on a ledger whose joining releases close no ring. Assumes nothing.
+use Rattle.std.proofs.Common.{◌≡◌, ℕ, zero, suc, Bool, true, false, ltb, List, [], ◌∷◌, Some, None, Option, sym, refl, ap, ◌∙◌, subst, inl, inr, arith}
 use Rattle.std.proofs.lemmas.Bool.{cases_lt, ltb-true, ltb-false}
+use Rattle.links.specs.declared.step.Range.{Range}
 use Rattle.links.specs.Rings.{Ringless}
 use Rattle.kinds.specs.Group.{Group}
 use Rattle.stores.specs.Log.{Log}
@@ -10,9 +11,10 @@ use Rattle.ledger.specs.Rules.{Rule}
 use Rattle.ledger.specs.Judgement.{Verdict, Judged}
 use Rattle.ledger.specs.declared.answer.Fault.{Fault}
 use Rattle.ledger.specs.declared.answer.Answer.{Answer}
+use Rattle.ledger.specs.declared.answer.Trial.{Trial}
 use Rattle.distances.specs.Sums.{chain_sum}
-use Rattle.ledger.specs.Machine.{Ledger, ranges, amount_of, Query, asked, fault, Outcome, standing, withholding, joining, Asked}
-use Rattle.ledger.specs.Truth.{OneOutcome}
+use Rattle.ledger.specs.Machine.{Ledger, ranges, amount_of, Query, asked, fault, Outcome, standing, withholding, joining, Asked, Try, try_range, try_fault, Tried, Rehearsed}
+use Rattle.ledger.specs.Truth.{OneOutcome, OneRehearsal}
 use Rattle.ledger.proofs.Verdicts.{verdict, verdict_judged, verdict_only}
 
 -- the lowest lost slot, if one is lost
@@ -104,3 +106,81 @@ pub one_outcome : {V : Type 0} (G : Group V) → OneOutcome G
 one_outcome G log rule s ring q =
     let there = asked_answered G log rule s q ring in
     (answered G log rule s q, there, asked_ringless G log rule s q ring (answered G log rule s q) there, asked_only G log rule s q ring)
+
+-- the answer of a try that goes with a fault or none and a verdict
+abbrev pub trial : Option Fault → Verdict → Trial
+trial (Some f) v = Trial.Refused f
+trial None (Verdict.Known ss) = Trial.Free
+trial None (Verdict.Hidden p ss) = Trial.Withheld p
+trial None Verdict.Free = Trial.Free
+
+-- the ranges that the next try is judged by
+abbrev pub judged_next : Option Fault → Verdict → Range → List Range → List Range
+judged_next (Some f) v r js = js
+judged_next None (Verdict.Known ss) r js = js
+judged_next None (Verdict.Hidden p ss) r js = js
+judged_next None Verdict.Free r js = r ∷ js
+
+-- what a try leaves to the next closes no ring either
+next_ringless : (js : List Range) (rule : Rule) (r : Range) (f : Option Fault) (v : Verdict) → Ringless js → Judged js rule r v → Ringless (judged_next f v r js)
+next_ringless js rule r (Some f) v ring j = ring
+next_ringless js rule r None v ring (Judged.known l c e) = ring
+next_ringless js rule r None v ring (Judged.hidden n m c) = ring
+next_ringless js rule r None v ring (Judged.free n w) = (n, ring)
+
+module _ (js : List Range) (t : Try) where
+  trial_tried : (f : Option Fault) (v : Verdict) → try_fault t ≡ f → Judged js t.rule (try_range t) v → Tried js t (trial f v) (judged_next f v (try_range t) js)
+  trial_tried (Some f) v e j = Tried.turned_back e
+  trial_tried None (Verdict.Known ss) e j = Tried.known e j
+  trial_tried None (Verdict.Hidden p ss) e j = Tried.withheld e j
+  trial_tried None Verdict.Free e j = Tried.free e j
+
+  abbrev IsTrial : Trial → List Range → Option Fault → Verdict → Type 0
+  IsTrial x ks f v = (x ≡ trial f v) × (ks ≡ judged_next f v (try_range t) js)
+
+  trial_is : (v w : Verdict) → try_fault t ≡ None → v ≡ w → IsTrial (trial None w) (judged_next None w (try_range t) js) (try_fault t) v
+  trial_is v w e u = subst (λ (f : Option Fault). IsTrial (trial None w) (judged_next None w (try_range t) js) f v) (sym e) (ap (trial None) (sym u), ap (λ (z : Verdict). judged_next None z (try_range t) js) (sym u))
+
+  tried_trial : Ringless js → (v : Verdict) → Judged js t.rule (try_range t) v → (x : Trial) (ks : List Range) → Tried js t x ks → IsTrial x ks (try_fault t) v
+  tried_trial ring v j x ks (Tried.turned_back {f = f} e) = (ap (λ (z : Option Fault). trial z v) (sym e), ap (λ (z : Option Fault). judged_next z v (try_range t) js) (sym e))
+  tried_trial ring v j x ks (Tried.known {ss = ss} e k) = trial_is v (Verdict.Known ss) e (verdict_only js t.rule (try_range t) ring v (Verdict.Known ss) j k)
+  tried_trial ring v j x ks (Tried.withheld {p = p} {ss = ss} e k) = trial_is v (Verdict.Hidden p ss) e (verdict_only js t.rule (try_range t) ring v (Verdict.Hidden p ss) j k)
+  tried_trial ring v j x ks (Tried.free e k) = trial_is v Verdict.Free e (verdict_only js t.rule (try_range t) ring v Verdict.Free j k)
+
+-- a try's answer, and the ranges for the next, found by search
+abbrev pub tried_answer : List Range → Try → Trial
+tried_answer js t = trial (try_fault t) (verdict js t.rule (try_range t))
+
+abbrev pub tried_next : List Range → Try → List Range
+tried_next js t = judged_next (try_fault t) (verdict js t.rule (try_range t)) (try_range t) js
+
+pub tried_there : (js : List Range) (t : Try) → Ringless js → Tried js t (tried_answer js t) (tried_next js t)
+tried_there js t ring = trial_tried js t (try_fault t) (verdict js t.rule (try_range t)) refl (verdict_judged js t.rule (try_range t) ring)
+
+pub next_free : (js : List Range) (t : Try) → Ringless js → Ringless (tried_next js t)
+next_free js t ring = next_ringless js t.rule (try_range t) (try_fault t) (verdict js t.rule (try_range t)) ring (verdict_judged js t.rule (try_range t) ring)
+
+pub tried_only : (js : List Range) (t : Try) → Ringless js → (x : Trial) (ks : List Range) → Tried js t x ks → (x ≡ tried_answer js t) × (ks ≡ tried_next js t)
+tried_only js t ring x ks a = tried_trial js t ring (verdict js t.rule (try_range t)) (verdict_judged js t.rule (try_range t) ring) x ks a
+
+-- the answers of a rehearsal's tries, found by search
+unfoldable pub rehearsed : List Try → List Range → List Trial
+rehearsed [] js = []
+rehearsed (t ∷ ts) js = tried_answer js t ∷ rehearsed ts (tried_next js t)
+
+pub rehearsed_there : (ts : List Try) (js : List Range) → Ringless js → Rehearsed js ts (rehearsed ts js)
+unfolding rehearsed
+rehearsed_there [] js ring = Rehearsed.ended
+rehearsed_there (t ∷ ts) js ring = Rehearsed.tries (tried_there js t ring) (rehearsed_there ts (tried_next js t) (next_free js t ring))
+
+pub rehearsed_only : (ts : List Try) (js : List Range) → Ringless js → (xs : List Trial) → Rehearsed js ts xs → xs ≡ rehearsed ts js
+unfolding rehearsed
+rehearsed_only [] js ring xs Rehearsed.ended = refl
+rehearsed_only (t ∷ ts) js ring xs (Rehearsed.tries {ks = ks} {x = x} {xs = ys} a p) =
+    let is = tried_only js t ring x ks a in
+    let head : x ≡ tried_answer js t = is.0 in
+    let rest = rehearsed_only ts (tried_next js t) (next_free js t ring) ys (subst (λ (z : List Range). Rehearsed z ts ys) is.1 p) in
+    λ i. head i ∷ rest i
+
+pub one_rehearsal : OneRehearsal
+one_rehearsal js ring ts = (rehearsed ts js, rehearsed_there ts js ring, λ xs' b. rehearsed_only ts js ring xs' b)

@@ -80,7 +80,7 @@ module _ {V : Type 0} (G : Group V) (log : Log V) (rule : Rule) where
   released_value : (v w : V) → Answer.Released v ≡ Answer.Released w → w ≡ v
   released_value v w e = cc
 
-  asked_true : (s : Ledger V) (q : Query) (o : Outcome V) → TrueTo G log rule s.joined → Asked G log rule s q o → (v : V) → o.answer ≡ Answer.Released v → v ≡ range_sum G log.reading q.low q.high
+  pub asked_true : (s : Ledger V) (q : Query) (o : Outcome V) → TrueTo G log rule s.joined → Asked G log rule s q o → (v : V) → o.answer ≡ Answer.Released v → v ≡ range_sum G log.reading q.low q.high
   asked_true s q o h (Asked.turned_back e) v w = absurd (let z : ◌≡◌ {A = ℕ} 0 1 = cc in omega arith)
   asked_true s q o h (Asked.known {ss = ss} e (Judged.known l c k)) v w =
       released_value (chain_sum G (amount_of G s.joined) ss) v w
@@ -90,7 +90,7 @@ module _ {V : Type 0} (G : Group V) (log : Log V) (rule : Rule) where
   asked_true s q o h (Asked.lost e j l) v w = absurd (let z : ◌≡◌ {A = ℕ} 0 1 = cc in omega arith)
   asked_true s q o h (Asked.released e j k) v w = released_value (range_sum G log.reading q.low q.high) v w
 
-  asked_shown : (s : Ledger V) (q : Query) (o : Outcome V) → TrueTo G log rule s.joined → Asked G log rule s q o → (pair : Range) (m : ℕ) → o.answer ≡ Answer.Withheld pair m → Shown G log rule s q o.table pair m
+  pub asked_shown : (s : Ledger V) (q : Query) (o : Outcome V) → TrueTo G log rule s.joined → Asked G log rule s q o → (pair : Range) (m : ℕ) → o.answer ≡ Answer.Withheld pair m → Shown G log rule s q o.table pair m
   asked_shown s q o h (Asked.turned_back e) pair m w = absurd (let z : ◌≡◌ {A = ℕ} 0 1 = cc in omega arith)
   asked_shown s q o h (Asked.known e j) pair m w = absurd (let z : ◌≡◌ {A = ℕ} 0 1 = cc in omega arith)
   asked_shown s q o h (Asked.withheld {p = p} {ss = ss} e (Judged.hidden n k c)) pair m w =

@@ -2,6 +2,7 @@
 use Rattle.std.specs.Prelude.{ℕ, ◌+◌, List, [], ◌∷◌}
 use Rattle.ledger.specs.declared.answer.Fault.{Fault}
 use Rattle.ledger.specs.declared.answer.Answer.{Answer}
+use Rattle.ledger.specs.declared.answer.Trial.{Trial}
 use Rattle.ledger.specs.declared.answer.Counts.{Counts}
 
 -- the number of a fault
@@ -19,6 +20,12 @@ told (Answer.Released v) = []
 told (Answer.Withheld p m) = 7 ∷ p.low ∷ p.high ∷ m ∷ []
 told (Answer.LostSlot k) = 8 ∷ k ∷ []
 told (Answer.Refused f) = number f ∷ []
+
+-- the same of a try, which has no chain
+abbrev pub told_trial : Trial → List ℕ
+told_trial Trial.Free = []
+told_trial (Trial.Withheld p) = 7 ∷ p.low ∷ p.high ∷ []
+told_trial (Trial.Refused f) = number f ∷ []
 
 -- how many queries were counted
 abbrev pub counted : Counts → ℕ

@@ -4,3 +4,4 @@ pub mod Answers
 pub mod Machine
 pub mod Truth
 pub mod State
+pub mod Tries

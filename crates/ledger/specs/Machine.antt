@@ -1,4 +1,4 @@
--- The step machine of a ledger: what a query answers, and what it leaves. Assumes nothing.
+-- The step machine of a ledger: what a query and a rehearsal answer, and what they leave. Assumes nothing.
 use Rattle.std.specs.Prelude.{◌≡◌, ℕ, Bool, cond, ◌&&◌, List, [], ◌∷◌, ◌++◌, length, drop, Some, None, Option, ◌==◌, nat_le, nat_lt}
 use Rattle.links.specs.declared.step.Range.{Range}
 use Rattle.links.specs.declared.step.Step.{Step}
@@ -10,6 +10,7 @@ use Rattle.ledger.specs.Rules.{Rule}
 use Rattle.ledger.specs.Judgement.{Verdict, Judged}
 use Rattle.ledger.specs.declared.answer.Fault.{Fault}
 use Rattle.ledger.specs.declared.answer.Answer.{Answer}
+use Rattle.ledger.specs.declared.answer.Trial.{Trial}
 use Rattle.ledger.specs.declared.answer.Counts.{Counts}
 use Rattle.ledger.specs.Answers.{counted, count}
 
@@ -108,3 +109,35 @@ pub data Asked {V : Type 0} (G : Group V) (log : Log V) (rule : Rule) (s : Ledge
   lost : {k : ℕ} → WellFormed log s q → Judged (ranges s.joined) rule (asked q) Verdict.Free → LowestLost log.mark q.low q.high k → Asked G log rule s q (standing s q (Answer.LostSlot k))
   -- the sum of the slots is released and joins
   released : WellFormed log s q → Judged (ranges s.joined) rule (asked q) Verdict.Free → AllKept log.mark q.low q.high → Asked G log rule s q (joining s q (range_sum G log.reading q.low q.high))
+
+-- a range tried in a rehearsal, against a rule and a slot count of its own
+pub record Try : Type 0 where
+  pub low : ℕ
+  pub high : ℕ
+  pub rule : Rule
+  pub slots : ℕ
+
+-- the range that is tried
+abbrev pub try_range : Try → Range
+try_range t = record { low = t.low; high = t.high }
+
+-- the first fault that a try meets
+abbrev pub try_fault : Try → Option Fault
+try_fault t =
+    cond (nat_lt 1023 t.slots) (Some Fault.LongLog) (
+    cond (nat_lt t.slots t.high) (Some Fault.Beyond) (
+    cond (nat_le t.high t.low) (Some Fault.Backward) None))
+
+-- What a try answers, judged by the joined ranges and those found free before it, and the ranges that the next try is judged by.
+pub data Tried (js : List Range) (t : Try) : Trial → List Range → Type 0 where
+  turned_back : {f : Fault} → try_fault t ≡ Some f → Tried js t (Trial.Refused f) js
+  -- its ends are linked already: free, and nothing joins
+  known : {ss : List Step} → try_fault t ≡ None → Judged js t.rule (try_range t) (Verdict.Known ss) → Tried js t Trial.Free js
+  withheld : {p : Range} {ss : List Step} → try_fault t ≡ None → Judged js t.rule (try_range t) (Verdict.Hidden p ss) → Tried js t (Trial.Withheld p) js
+  -- free, and it joins
+  free : try_fault t ≡ None → Judged js t.rule (try_range t) Verdict.Free → Tried js t Trial.Free (try_range t ∷ js)
+
+-- What the tries of a rehearsal answer, one after another; the ledger is not touched.
+pub data Rehearsed : List Range → List Try → List Trial → Type 0 where
+  ended : {js : List Range} → Rehearsed js [] []
+  tries : {js ks : List Range} {t : Try} {ts : List Try} {x : Trial} {xs : List Trial} → Tried js t x ks → Rehearsed ks ts xs → Rehearsed js (t ∷ ts) (x ∷ xs)

@@ -10,7 +10,8 @@ use Rattle.links.specs.Rings.{Ringless, new_steps}
 use Rattle.stores.specs.Log.{Log}
 use Rattle.stores.specs.Sums.{range_sum}
 use Rattle.ledger.specs.declared.answer.Answer.{Answer}
-use Rattle.ledger.specs.Machine.{Release, Ledger, ranges, Query, asked, Outcome, Asked, written}
+use Rattle.ledger.specs.declared.answer.Trial.{Trial}
+use Rattle.ledger.specs.Machine.{Release, Ledger, ranges, Query, asked, Outcome, Asked, Try, Rehearsed, written}
 use Rattle.ledger.specs.Rules.{Rule, Protected}
 
 -- the sum of a range's readings
@@ -64,3 +65,9 @@ abbrev pub OneOutcome : {V : Type 0} → Group V → Type 0
 OneOutcome {V} G =
     (log : Log V) (rule : Rule) (s : Ledger V) → Ringless (ranges s.joined) → (q : Query) →
     (o : Outcome V) × Asked G log rule s q o × Ringless (ranges o.after.joined) × ((o' : Outcome V) → Asked G log rule s q o' → o' ≡ o)
+
+-- Where the joined ranges close no ring, the tries of a rehearsal have just one list of answers.
+abbrev pub OneRehearsal : Type 0
+OneRehearsal =
+    (js : List Range) → Ringless js → (ts : List Try) →
+    (xs : List Trial) × Rehearsed js ts xs × ((xs' : List Trial) → Rehearsed js ts xs' → xs' ≡ xs)

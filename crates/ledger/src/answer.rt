@@ -1,6 +1,6 @@
-// What a ledger answers to a query, and its counts.
+// What a ledger answers: to a query, to a try of a rehearsal, and in counts.
 ghost use Rattle.std.specs.Prelude.{◌≡◌, slice_index};
-ghost use Rattle.ledger.specs.Answers.{number, told};
+ghost use Rattle.ledger.specs.Answers.{number, told, told_trial};
 
 use links::Range;
 
@@ -55,6 +55,27 @@ impl<V> Answer<V> {
             Answer::Withheld(_, _) => 7,
             Answer::LostSlot(_) => 8,
             Answer::Refused(fault) => fault.number(),
+        }
+    }
+}
+
+// A try's answer.
+#[derive(Clone, Copy)]
+pub enum Trial {
+    Free,
+    Withheld(Range),
+    Refused(Fault),
+}
+
+impl Trial {
+    // The number that stands first in what is told of the try, and 0 where it is free.
+    pub fn number(&self) -> u8
+        ensures { result ≡ slice_index (told_trial self.now) 0 }
+    {
+        match self {
+            Trial::Free => 0,
+            Trial::Withheld(_) => 7,
+            Trial::Refused(fault) => fault.number(),
         }
     }
 }

@@ -4,6 +4,7 @@ ghost use Rattle.ledger.specs.Answers.{counted};
 
 mod lifetime;
 mod query;
+mod rehearsal;
 
 use crate::answer::Counts;
 use crate::token::NewLog;

@@ -5,8 +5,12 @@ mod amounts;
 mod answer;
 mod ledger;
 mod token;
+mod told;
+mod trying;
 
 pub use amounts::Amounts;
-pub use answer::{Answer, Counts, Fault};
+pub use answer::{Answer, Counts, Fault, Trial};
 pub use ledger::{Ledger, open};
 pub use token::NewLog;
+pub use told::Told;
+pub use trying::Try;

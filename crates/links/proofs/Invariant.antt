@@ -14,7 +14,7 @@ use Rattle.links.proofs.History.{stays, climbs, apart}
 use Rattle.links.proofs.Sound.{Sound, grown, past}
 use Rattle.links.proofs.Ties.{Tied, linked_same, same_linked}
 
-pub sound : (links : Links) → Sound links.rows links.joins
+unfoldable pub sound : (links : Links) → Sound links.rows links.joins
 sound links =
     record {
       long = links.long;

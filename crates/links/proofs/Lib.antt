@@ -11,6 +11,7 @@ mod Putting
 pub mod Sound
 mod Opening
 pub mod Invariant
+mod Tables
 mod Joining
 pub mod Making
 mod Climbing
@@ -19,3 +20,4 @@ pub mod Chained
 pub mod Labels
 pub mod Paths
 pub mod Lengths
+pub mod Same

@@ -3,6 +3,7 @@
 
 mod boundary;
 mod links;
+mod provisional;
 mod row;
 mod step;
 #[cfg(test)]
@@ -10,4 +11,5 @@ mod tests;
 
 pub use boundary::Boundary;
 pub use links::{Hung, Links};
+pub use provisional::Provisional;
 pub use step::{Origin, Range, Sign, Step};

@@ -1,8 +1,8 @@
 // A rehearsal: which ranges of a list would be released, on links that then stand as before.
 ghost use Rattle.std.specs.Prelude.{◌≡◌, ◌<◌, ◌≤◌, min, map, length, take, drop, IfOk, Some, None, MatchResult, OnOk};
 ghost use Rattle.links.specs.Joined.{joined};
-ghost use Rattle.ledger.specs.Machine.{Tried, Rehearsed, try-fault};
-ghost use Rattle.ledger.specs.Truth.{One-rehearsal};
+ghost use Rattle.ledger.specs.Machine.{Tried, Rehearsed, try_fault};
+ghost use Rattle.ledger.specs.Truth.{OneRehearsal};
 ghost use Rattle.ledger.specs.Tries.{try_of};
 
 use super::Ledger;
@@ -14,7 +14,7 @@ use rules::Rule;
 
 // The ends of a try that meets no fault, or its first fault.
 fn ends<R: Rule>(range: &Try<R>) -> Result<(Boundary, Boundary), Fault>
-    ensures fault { MatchResult result (λ _. try-fault (try_of R.Rule.protects R.Rule.ordered range.now) ≡ None) (λ fault. try-fault (try_of R.Rule.protects R.Rule.ordered range.now) ≡ Some fault) }
+    ensures fault { MatchResult result (λ _. try_fault (try_of R.Rule.protects R.Rule.ordered range.now) ≡ None) (λ fault. try_fault (try_of R.Rule.protects R.Rule.ordered range.now) ≡ Some fault) }
     ensures ends { IfOk result (λ ends. (ends.0.index ≡ range.now.low) × (ends.1.index ≡ range.now.high)) }
     ensures ordered { OnOk result (range.now.low < range.now.high) }
 {
@@ -65,7 +65,7 @@ impl Ledger {
         ensures tried { Rehearsed (joined self.old.links) (map (try_of R.Rule.protects R.Rule.ordered) (take result tries.now)) (take result trials.new) }
         ensures rest { drop result trials.new ≡ drop result trials.old }
         ensures same { self.new ≡ self.old }
-        ensures exact { One-rehearsal }
+        ensures exact { OneRehearsal }
     {
         let mut links = Provisional::over(&mut self.links);
         let mut made = 0;

@@ -18,26 +18,26 @@ use Rattle.ledger.specs.declared.answer.Trial.{Trial}
 use Rattle.ledger.specs.declared.ledger.Ledger.{Ledger}
 use Rattle.ledger.specs.Answers.{counted}
 use Rattle.ledger.specs.Judgement.{Verdict, Judged}
-use Rattle.ledger.specs.Machine.{Try, try-range, try-fault, Tried, Rehearsed}
+use Rattle.ledger.specs.Machine.{Try, try_range, try_fault, Tried, Rehearsed}
 
 -- what is said of links and two boundaries, said of their equals
 pub moved : (P : Links → ℕ → ℕ → Type 0) {l l' : Links} {a a' b b' : ℕ} → l ≡ l' → a ≡ a' → b ≡ b' → P l a b → P l' a' b'
 moved P {l} {l'} {a} {a'} {b} {b'} same low high x =
     subst (λ (y : ℕ). P l' a' y) high (subst (λ (y : ℕ). P l' y b) low (subst (λ (y : Links). P y a b) same x))
 
-module _ (links : Links) (t : Try) (none : try-fault t ≡ None) where
+module _ (links : Links) (t : Try) (none : try_fault t ≡ None) where
   pub tried_linked : Linked (joined links) t.low t.high → Tried (joined links) t Trial.Free (joined links)
   tried_linked l =
-      let found = earlier_path (joined links) (try-range t) (acyclic links).ringless t.low t.high l in
+      let found = earlier_path (joined links) (try_range t) (acyclic links).ringless t.low t.high l in
       Tried.known {ss = path (released (joined links)) t.low t.high} none (Judged.known l found.0 found.1)
 
-  pub tried_withheld : (p : Range) → (Linked (joined links) t.low t.high → ⊥) → Named (joined links) t.rule.says (try-range t) p → Tried (joined links) t (Trial.Withheld p) (joined links)
+  pub tried_withheld : (p : Range) → (Linked (joined links) t.low t.high → ⊥) → Named (joined links) t.rule.says (try_range t) p → Tried (joined links) t (Trial.Withheld p) (joined links)
   tried_withheld p apart named =
-      Tried.withheld {ss = path (with_new (try-range t) (joined links)) p.low p.high} none
-      (Judged.hidden apart named (chain_path (joined links) (try-range t) (apart, (acyclic links).ringless) p.low p.high named.newly.linked))
+      Tried.withheld {ss = path (with_new (try_range t) (joined links)) p.low p.high} none
+      (Judged.hidden apart named (chain_path (joined links) (try_range t) (apart, (acyclic links).ringless) p.low p.high named.newly.linked))
 
   -- a free try joins, since its ends are apart and in order
-  pub tried_free : (links' : Links) (hung : Option Hung) → t.low < t.high → (Linked (joined links) t.low t.high → ⊥) → ((i j : ℕ) → Newly (joined links) (try-range t) i j → t.rule.says i j ≡ false) →
+  pub tried_free : (links' : Links) (hung : Option Hung) → t.low < t.high → (Linked (joined links) t.low t.high → ⊥) → ((i j : ℕ) → Newly (joined links) (try_range t) i j → t.rule.says i j ≡ false) →
       MatchOption hung (Declined links links' t.low t.high) (λ h. Made links links' t.low t.high h.leader.index h.under.index) →
       Tried (joined links) t Trial.Free (joined links')
   tried_free links' None range apart nothing declined = absurd (⊎_elim (λ back. omega arith) apart declined.reason)

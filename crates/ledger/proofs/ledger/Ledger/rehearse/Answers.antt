@@ -8,7 +8,7 @@ use Rattle.ledger.specs.declared.trying.Try.{Try}
 use Rattle.ledger.specs.Machine.{Rehearsed}
 use Rattle.ledger.specs.Tries.{try_of}
 use Rattle.ledger.proofs.Attempts.{Reaches, reaches_next, rehearsed_from, drop_past, ledger_same}
-use Rattle.ledger.proofs.Outcomes.{one-rehearsal}
+use Rattle.ledger.proofs.Outcomes.{one_rehearsal}
 use Rattle.ledger.proofs.ledger.Ledger.rehearse.Goals as goal
 
 -- the links put back are those from before
@@ -29,7 +29,7 @@ returns-then-made-trials g c =
       tried = rehearsed_from c.over-links.result.links.now c.args.self.now.links first.same inv.2;
       rest = inv.3;
       same = ledger_same _ _ (put_back c.args.self.now.links _ c.loop-range.links.saved c.over-links.result.saved inv.4 first.rows first.joins c.drop-links.ensures.rows c.drop-links.ensures.joins) refl refl;
-      exact = one-rehearsal;
+      exact = one_rehearsal;
     }
 
 pub loop-range-preserved : goal.loop-range-preserved
@@ -57,5 +57,5 @@ returns g c =
       tried = rehearsed_from c.over-links.result.links.now c.args.self.now.links first.same inv.2;
       rest = inv.3;
       same = ledger_same _ _ (put_back c.args.self.now.links _ c.loop-range.links.saved c.over-links.result.saved inv.4 first.rows first.joins c.drop-links-2.ensures.rows c.drop-links-2.ensures.joins) refl refl;
-      exact = one-rehearsal;
+      exact = one_rehearsal;
     }
