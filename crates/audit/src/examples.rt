@@ -5,7 +5,7 @@ use kinds::Kind;
 
 // Only its contract says something: the cases, all together, of every kind.
 pub fn examples_hold<K: Kind>() -> u8
-    ensures { Worked group }
+    ensures { Worked K.group }
 {
     0
 }

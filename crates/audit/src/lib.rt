@@ -1,4 +1,6 @@
 // Lists of calls on a ledger, from its opening to its close, and what holds of every such list.
+#![tactic(auto)]
+
 mod call;
 mod course;
 mod examples;

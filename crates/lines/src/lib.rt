@@ -1,4 +1,6 @@
 // How answers are printed: each as one line of bytes, in a lent buffer.
+#![tactic(auto)]
+
 mod answers;
 mod buffer;
 mod counts;

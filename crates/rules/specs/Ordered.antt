@@ -2,7 +2,7 @@
 use Rattle.std.specs.Prelude.{◌≡◌, ℕ, ◌≤◌, Bool, false, ◌&&◌, ◌||◌, List, nat_lt}
 use Rattle.std.proofs.Common.{ap, ◌∙◌, le-ltb}
 use Rattle.rules.specs.declared.spans.Span.{Span}
-use Rattle.rules.specs.Pairs.{up_to, spans, either}
+use Rattle.rules.specs.Pairs.{short, up_to, spans, either}
 
 -- a pair whose low end is not below its high end is never protected
 abbrev pub Ordered : (ℕ → ℕ → Bool) → Type 0
@@ -11,6 +11,9 @@ Ordered protects = (low high : ℕ) → high ≤ low → protects low high ≡ f
 -- what asks for a range first
 only_ranges : (rest : ℕ → ℕ → Bool) → Ordered (λ low high. nat_lt low high && rest low high)
 only_ranges rest low high back = ap (λ b. b && rest low high) (le-ltb low high back)
+
+pub short_ordered : (k : ℕ) → Ordered (short k)
+short_ordered k = only_ranges _
 
 pub up_to_ordered : (longest : ℕ) → Ordered (up_to longest)
 up_to_ordered longest = only_ranges _

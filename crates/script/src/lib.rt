@@ -1,4 +1,6 @@
 // A whole script: from its bytes to the printed lines.
+#![tactic(auto)]
+
 mod asking;
 mod print;
 mod rehearsing;
