@@ -1,6 +1,6 @@
 -- Which bytes are of which class. Assumes nothing.
-use Rattle.std.proofs.Common.{◌≡◌, ℕ, ◌<◌, ◌≤◌, true, false, ◌&&◌, eqb, leb, ◌⊎◌, sym, refl, ap, ◌∙◌, subst, inl, inr, ⊎_elim, arith}
-use Rattle.std.proofs.lemmas.Bool.{cond_both, cond-true, cond-false, cases_Bool, eq-eqb, eqb-true, eqb-false, ne_eqb, le-leb, lt-leb, leb-true, leb-false, and_from, and_parts, and_cases, and_left, and_right}
+use Rattle.std.proofs.Common.{◌≡◌, ℕ, true, false, ◌&&◌, eqb, leb, refl, subst, ⊎_elim, arith}
+use Rattle.std.proofs.lemmas.Bool.{cond_both, eqb-true, eqb-false, leb-true, leb-false, and_parts, and_cases}
 use Rattle.std.specs.Int.{IsInRange}
 use Rattle.text.specs.Alphabet.{class}
 use Rattle.text.specs.Spelling.{Foreign}

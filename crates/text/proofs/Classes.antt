@@ -1,6 +1,6 @@
 -- Classes are told apart by their ranks. Assumes nothing.
-use Rattle.std.proofs.Common.{◌≡◌, ℕ, zero, suc, Bool, true, false, cond, not, sym, refl, ap, ◌∙◌}
-use Rattle.std.proofs.lemmas.Bool.{both_ways, true≢false, false≢true, eq-eqb, eqb-true, ne_eqb}
+use Rattle.std.proofs.Common.{◌≡◌, ℕ, zero, suc, true, false, sym, refl, ap, ◌∙◌}
+use Rattle.std.proofs.lemmas.Bool.{both_ways, eq-eqb, eqb-true, ne_eqb}
 use Rattle.text.specs.Alphabet.{rank, same}
 use Rattle.text.specs.declared.alphabet.Class.{Class}
 use Rattle.text.specs.declared.alphabet.Class.TheVariants.{Open, Close, Blank, Digit, Letter, Outside}
@@ -33,12 +33,3 @@ class_other j k n = ne_eqb _ _ (λ e. n (same_class j k (eq-eqb _ _ e)))
 
 pub other : (j k : Class) → same k j ≡ false → same j k ≡ false
 other j k e = class_other j k (λ same. both_ways _ e (class_same k j (sym same)))
-
--- what a failed or passed `!=` tells
-pub not_apart : {P : Type 0} (x : Bool) → cond x P (P → ⊥) → false ≡ not x → P
-not_apart true p e = p
-not_apart false p e = absurd (false≢true e)
-
-pub apart : {P : Type 0} (x : Bool) → cond x P (P → ⊥) → true ≡ not x → P → ⊥
-apart true p e q = true≢false e
-apart false p e q = p q

@@ -1,9 +1,8 @@
 -- Numbers and the digits that write them. Assumes nothing.
-use Rattle.std.proofs.Common.{◌≡◌, ℕ, ◌+◌, ◌-◌, ◌*◌, ◌^◌, ◌<◌, ◌≤◌, true, false, ◌&&◌, eqb, ltb, ◌⊎◌, List, [], ◌∷◌, length, get_or, Some, None, decimal, sym, refl, ap, ◌∙◌, subst, inl, inr, ⊎_elim, mul_comm, arith, rules}
-use Rattle.std.proofs.lemmas.Fmt.{decimal-digits_value, digits_value-decimal, digits_decimal, decimal_nonempty, first_decimal, decimal_digit}
+use Rattle.std.proofs.Common.{◌≡◌, ℕ, ◌+◌, ◌-◌, ◌^◌, ◌<◌, false, ltb, List, length, get_or, Some, None, decimal, sym, ap, ◌∙◌, ⊎_elim, mul_comm, arith}
+use Rattle.std.proofs.lemmas.Fmt.{decimal-digits_value, digits_value-decimal, digits_decimal, first_decimal, decimal_digit}
 use Rattle.std.proofs.lemmas.Str.Parse.{IsNumeralModel, FoldsDigits, numerals_by_fold, tells_by_index}
-use Rattle.std.proofs.lemmas.Bool.{both_ways, cases_lt, cond-true, cond-false, cases_Bool, cases_order, eq-eqb, eqb-true, ne_eqb, lt-ltb, le-ltb, ltb-true, ltb-false, and_from, and_parts, and_left, and_right}
-use Rattle.std.specs.Int.{IsInRange}
+use Rattle.std.proofs.lemmas.Bool.{both_ways, cases_lt, cond-true, cond-false, cases_Bool, cases_order, eq-eqb, ne_eqb, lt-ltb, ltb-true, and_from, and_right}
 use Rattle.text.specs.Numbers.{value_after, zero_led, number_of}
 use Rattle.text.specs.Spelling.{Between}
 use Rattle.text.proofs.Values.{value_none, value_next, not_led}

@@ -1,12 +1,12 @@
 -- A line means just the tokens that it spells, and has just the fault that stands in it. Assumes nothing.
-use Rattle.std.proofs.Common.{◌≡◌, ℕ, zero, suc, ◌<◌, ◌⊎◌, List, [], ◌∷◌, ◌++◌, length, Some, None, Ok, Err, Option, Result, sym, refl, ap, ◌∙◌, subst, inl, inr, ⊎_elim, append-nil, arith}
-use Rattle.text.specs.Alphabet.{class, joins}
+use Rattle.std.proofs.Common.{◌≡◌, ℕ, zero, suc, ◌<◌, List, [], ◌∷◌, ◌++◌, length, None, Ok, Err, sym, refl, ap, ◌∙◌, subst, ⊎_elim, append-nil, arith}
+use Rattle.text.specs.Alphabet.{joins}
 use Rattle.text.specs.Faults.{along}
 use Rattle.text.specs.Judging.{closed, depth_after, ended, judged, sound}
 use Rattle.text.specs.Numbers.{number_of}
 use Rattle.text.specs.Runs.{runs}
 use Rattle.text.specs.Spelling.{Spelled, Faulty, AtFault, Grammar}
-use Rattle.text.specs.Tokens.{Spot, tokens, line_start, meaning}
+use Rattle.text.specs.Tokens.{Spot, line_start, meaning}
 use Rattle.text.specs.declared.alphabet.Class.{Class}
 use Rattle.text.specs.declared.alphabet.Class.TheVariants.{Close, Digit, Outside}
 use Rattle.text.specs.declared.fault.Fault.{Fault}

@@ -1,7 +1,7 @@
 -- How the judgement of a line goes on from run to run. Assumes nothing.
-use Rattle.std.proofs.Common.{◌≡◌, ℕ, zero, suc, ◌+◌, ◌<◌, ◌≤◌, List, [], ◌∷◌, ◌++◌, length, Some, None, Ok, Err, Option, Result, sym, refl, ap, ◌∙◌, arith, length-append}
+use Rattle.std.proofs.Common.{◌≡◌, ℕ, zero, suc, ◌+◌, ◌≤◌, List, [], ◌∷◌, length, Some, None, Ok, Err, Option, Result, sym, refl, ap, ◌∙◌, arith, length-append}
 use Rattle.text.specs.Faults.{along}
-use Rattle.text.specs.Judging.{closed, sound, depth_after, ended, judged}
+use Rattle.text.specs.Judging.{sound, depth_after, ended, judged}
 use Rattle.text.specs.Numbers.{number_of}
 use Rattle.text.specs.Runs.{Run, runs, CutOff}
 use Rattle.text.specs.declared.alphabet.Class.{Class}

@@ -1,22 +1,21 @@
 -- What is read of tokens that lead up to a place. Assumes nothing.
-use Rattle.std.proofs.Common.{◌≡◌, ℕ, zero, suc, ◌+◌, ◌^◌, ◌<◌, ◌≤◌, Bool, true, false, cond, ◌&&◌, ◌⊎◌, List, [], ◌∷◌, ◌++◌, length, get_or, take, drop, replicate, Some, None, Ok, Err, decimal, Option, Result, sym, refl, ap, ◌∙◌, subst, inl, inr, ⊎_elim, add-zero, add_assoc, zero-add, add-one, one-add, arith}
+use Rattle.std.proofs.Common.{◌≡◌, ℕ, zero, suc, ◌+◌, ◌<◌, true, ◌&&◌, List, [], ◌∷◌, ◌++◌, length, get_or, take, drop, replicate, Some, Ok, decimal, Result, sym, refl, ap, ◌∙◌, ⊎_elim, add_assoc, add-one, one-add, arith}
 use Rattle.std.proofs.lemmas.Fmt.{decimal_nonempty}
-use Rattle.std.proofs.lemmas.List.{take_at, drop_at, append_assoc}
-use Rattle.std.proofs.lemmas.Bool.{cond-true, cond-false, cases_Bool, and_from, and_left, and_right}
+use Rattle.std.proofs.lemmas.List.{take_at, drop_at}
+use Rattle.std.proofs.lemmas.Bool.{cond-true, cond-false, cases_Bool}
 use Rattle.std.specs.Int.{IsInRange}
 use Rattle.text.specs.Alphabet.{class, rank, same, joins}
 use Rattle.text.specs.Faults.{along}
 use Rattle.text.specs.Judging.{closed, depth_after, judged, sound}
-use Rattle.text.specs.Numbers.{number_of}
 use Rattle.text.specs.Runs.{run_length, Run, before, runs}
 use Rattle.text.specs.Spelling.{Between, NotLed, spelling, Fit, Leads, Turns, Opens}
 use Rattle.text.specs.Tokens.{Symbol, opening, closing, number, word, Spot, symbol_of, onto, tokens, numeral}
 use Rattle.text.specs.declared.alphabet.Class.{Class}
-use Rattle.text.specs.declared.alphabet.Class.TheVariants.{Open, Close, Blank, Digit, Letter, Outside}
+use Rattle.text.specs.declared.alphabet.Class.TheVariants.{Open, Close, Blank, Digit, Letter}
 use Rattle.text.specs.declared.fault.Fault.{Fault}
 use Rattle.text.specs.declared.fault.Place.{Place}
 use Rattle.text.proofs.Bytes.{class_known, digit_class, letter_class}
-use Rattle.text.proofs.Classes.{same_class, class_same, class_other}
+use Rattle.text.proofs.Classes.{same_class}
 use Rattle.text.proofs.Cutting.{run_none, run_goes_on, run_stops, runs_next, runs_alone, runs_joined}
 use Rattle.text.proofs.Decimals.{number_decimal, decimal_digits}
 use Rattle.text.proofs.Judged.{onward, judged_first}

@@ -1,9 +1,8 @@
 -- Every line is spelled by some tokens or has a fault. Assumes nothing.
-use Rattle.std.proofs.Common.{◌≡◌, ℕ, zero, suc, ◌+◌, ◌^◌, ◌<◌, ◌≤◌, true, false, ◌⊎◌, List, [], ◌∷◌, ◌++◌, length, get_or, take, drop, replicate, Some, None, decimal, Option, sym, refl, ap, ◌∙◌, subst, inl, inr, ⊎_elim, add-zero, add-one, one-add, arith, length-append, take-append-drop}
+use Rattle.std.proofs.Common.{◌≡◌, ℕ, zero, suc, ◌+◌, ◌<◌, ◌≤◌, ◌⊎◌, List, [], ◌∷◌, ◌++◌, length, get_or, take, drop, replicate, Some, None, Option, sym, refl, ap, ◌∙◌, subst, inl, inr, ⊎_elim, add-one, one-add, arith, take-append-drop}
 use Rattle.std.proofs.lemmas.List.{append_assoc, replicate-append-replicate, length-take-le, length-drop}
 use Rattle.std.proofs.lemmas.Bool.{cases_Bool}
-use Rattle.std.specs.Int.{IsInRange}
-use Rattle.text.specs.Alphabet.{class, same, joins}
+use Rattle.text.specs.Alphabet.{class, same}
 use Rattle.text.specs.Faults.{along}
 use Rattle.text.specs.Numbers.{number_of}
 use Rattle.text.specs.Runs.{run_length}
@@ -14,7 +13,7 @@ use Rattle.text.specs.declared.alphabet.Class.TheVariants.{Open, Close, Blank, D
 use Rattle.text.specs.declared.fault.Fault.{Fault}
 use Rattle.text.specs.declared.fault.Fault.TheVariants as fault
 use Rattle.text.specs.declared.fault.Place.{Place}
-use Rattle.text.proofs.Bytes.{Known, class_known, digit_class, letter_class}
+use Rattle.text.proofs.Bytes.{class_known, digit_class, letter_class}
 use Rattle.text.proofs.Classes.{same_class}
 use Rattle.text.proofs.Cutting.{run_none, run_goes_on, run_off, run_within}
 use Rattle.text.proofs.Decimals.{number_decimal, decimal_number}

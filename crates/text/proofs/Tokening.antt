@@ -1,11 +1,11 @@
 -- How a line's tokens follow from its runs. Assumes nothing.
-use Rattle.std.proofs.Common.{◌≡◌, ℕ, suc, ◌+◌, ◌<◌, ◌≤◌, true, false, List, [], ◌∷◌, length, get_or, take, drop, Some, None, sym, refl, ap, ◌∙◌, ⊎_elim, add-zero, one-add, arith}
+use Rattle.std.proofs.Common.{◌≡◌, ℕ, List, [], ◌∷◌, length, take, drop, sym, refl, ap, ◌∙◌, ⊎_elim, add-zero, one-add, arith}
 use Rattle.std.proofs.lemmas.List.{length-take-le}
-use Rattle.std.proofs.lemmas.Bool.{cond-true, cond-false, cases_Bool, cases_lt}
+use Rattle.std.proofs.lemmas.Bool.{cond-true, cond-false, cases_Bool}
 use Rattle.text.specs.Alphabet.{class, same}
 use Rattle.text.specs.Faults.{along}
 use Rattle.text.specs.Runs.{run_length, Run, runs, CutOff}
-use Rattle.text.specs.Tokens.{Symbol, Spot, symbol_of, onto, tokens}
+use Rattle.text.specs.Tokens.{symbol_of, onto, tokens}
 use Rattle.text.specs.declared.alphabet.Class.{Class}
 use Rattle.text.specs.declared.alphabet.Class.TheVariants.{Blank}
 use Rattle.text.specs.declared.fault.Place.{Place}

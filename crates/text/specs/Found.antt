@@ -1,5 +1,5 @@
 -- One token taken from those that are left. Assumes nothing.
-use Rattle.std.specs.Prelude.{◌≡◌, ℕ, ◌+◌, ◌<◌, ◌≤◌, List, [], ◌∷◌, length, drop, Some, None, Option}
+use Rattle.std.specs.Prelude.{◌≡◌, ℕ, ◌+◌, ◌≤◌, List, [], ◌∷◌, length, drop, Some, None, Option}
 use Rattle.text.specs.Runs.{runs}
 use Rattle.text.specs.Script.{State}
 use Rattle.text.specs.Tokens.{Spot, tokens}

@@ -1,5 +1,5 @@
 -- The tokens of a line, and what a line means. Assumes nothing.
-use Rattle.std.specs.Prelude.{ℕ, ◌+◌, cond, List, [], ◌∷◌, length, Some, None, Ok, Err, Option, Result}
+use Rattle.std.specs.Prelude.{ℕ, cond, List, [], ◌∷◌, length, Some, None, Ok, Err, Option, Result}
 use Rattle.text.specs.Alphabet.{same}
 use Rattle.text.specs.Faults.{along}
 use Rattle.text.specs.Judging.{judged}

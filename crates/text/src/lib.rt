@@ -1,4 +1,6 @@
 // The text layer of a script: its lines, their tokens, and the faults of the text.
+#![tactic(auto)]
+
 mod alphabet;
 mod fault;
 mod judge;

@@ -1,7 +1,6 @@
-use Rattle.std.proofs.Common.{◌≡◌, ℕ, zero, suc, ◌+◌, ◌<◌, ◌≤◌, length, Ok, Err, sym, refl, ap, ◌∙◌, arith}
+use Rattle.std.proofs.Common.{◌≡◌, ℕ, zero, suc, ◌+◌, ◌<◌, length, Err, sym, refl, ap, ◌∙◌, arith}
 use Rattle.std.proofs.lemmas.Result.{err_from_is_err_and}
-use Rattle.text.specs.Faults.{along}
-use Rattle.text.specs.Judging.{ended, judged}
+use Rattle.text.specs.Judging.{ended}
 use Rattle.text.specs.declared.fault.Fault.TheVariants as fault
 use Rattle.text.specs.declared.fault.Place.{Place}
 use Rattle.text.proofs.Judged.{judged_end, judged_on, judged_stops, cut_length, depth_rises}
@@ -21,7 +20,7 @@ depth_after-requires c = let i = c.loop-cut.invariant in let p = parts (goal.at.
 
 pub returns-in_err-depth : goal.returns-in_err-depth
 returns-in_err-depth c =
-    let out = err_from_is_err_and c.from-residual.result c.from-residual.ensures.1 in
+    let out = err_from_is_err_and c.from_residual.result c.from_residual.ensures.1 in
     let place : Place = record { line = c.args.number; column = c.loop-cut.column } in
     let stop = judged_stops place c.loop-cut.depth _ _ _ _ c.in-Some.ensures c.in_err-depth.field-0.0 (sym c.in_err-depth.ensures) in
     out.1 ∙ ap Err out.2 ∙ sym stop ∙ c.loop-cut.invariant.2

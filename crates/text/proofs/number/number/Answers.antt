@@ -1,4 +1,4 @@
-use Rattle.std.proofs.Common.{◌≡◌, ◌+◌, ◌-◌, ◌*◌, ◌^◌, ◌<◌, true, false, length, get_or, drop, Some, sym, ap, ◌∙◌, arith}
+use Rattle.std.proofs.Common.{◌≡◌, ◌+◌, ◌-◌, ◌*◌, false, get_or, drop, Some, sym, ap, ◌∙◌, arith}
 use Rattle.std.proofs.lemmas.Bool.{and_left, and_right, and_from, cond-true, le-ltb, lt-ltb, eq-eqb, ne_eqb}
 use Rattle.text.specs.Numbers.{value_after, zero_led}
 use Rattle.text.proofs.Values.{value_more, value_all, value_grows, not_led, too_large}
@@ -9,12 +9,12 @@ pub loop-d-preserved : goal.loop-d-preserved
 loop-d-preserved c =
     let now = c.args.digits.now in
     let step : 10 * c.loop-d.value + (get_or now c.loop-d.d-index 0 - 48) ≡ 10 * c.loop-d.value + c.from.result = omega arith in (
-      c.if-value-ge-TOO-LARGE.false,
+      c.if-value-ge-TOO_LARGE.false,
       ap (λ n. value_after n (drop (c.loop-d.d-index + 1) now)) (sym step) ∙ sym (value_more c.loop-d.value now c.loop-d.d-index c.loop-d-test.true) ∙ c.loop-d.invariant.1,
     )
 
-pub returns-then-value-ge-TOO-LARGE : goal.returns-then-value-ge-TOO-LARGE
-returns-then-value-ge-TOO-LARGE c =
+pub returns-then-value-ge-TOO_LARGE : goal.returns-then-value-ge-TOO_LARGE
+returns-then-value-ge-TOO_LARGE c =
     let now = c.args.digits.now in
     let step : 10 * c.loop-d.value + (get_or now c.loop-d.d-index 0 - 48) ≡ 10 * c.loop-d.value + c.from.result = omega arith in
     let on = value_more c.loop-d.value now c.loop-d.d-index c.loop-d-test.true in

@@ -1,23 +1,23 @@
-use Rattle.std.proofs.Common.{◌≡◌, sym, ap, ◌∙◌, arith}
+use Rattle.std.proofs.Common.{sym, ap, ◌∙◌, arith}
+use denote.Enum.Bare.{differs_true, differs_false}
 use Rattle.text.specs.Alphabet.{class}
-use Rattle.text.proofs.Classes.{not_apart, apart}
+use Rattle.text.specs.contracts.alphabet.Class.{the_type}
 use Rattle.text.proofs.Cutting.{run_more, run_ends, run_all}
 use Rattle.text.proofs.run.run_length.Goals as goal
 
 pub loop-i-preserved : goal.loop-i-preserved
 loop-i-preserved c =
-    let h = c.if-ne.ensures in
+    let same = differs_false the_type tt c.classify.result c.args.class (sym c.ne.ensures ∙ c.if-ne.false) in
     let on =
     run_more c.args.class c.args.bytes.now c.loop-i.i c.loop-i-test.true
-    (sym (c.classify.ensures ∙ ap class c.from.ensures) ∙ not_apart h.0 h.1 h.2) in
+    (sym (c.classify.ensures ∙ ap class c.from.ensures) ∙ same) in
     sym on ∙ c.loop-i.invariant
 
 pub returns-then-ne : goal.returns-then-ne
 returns-then-ne c =
-    let h = c.if-ne.ensures in
     let stop =
     run_ends c.args.class c.args.bytes.now c.loop-i.i c.loop-i-test.true
-    (λ e. apart h.0 h.1 h.2 (c.classify.ensures ∙ ap class c.from.ensures ∙ e)) in
+    (λ e. differs_true the_type c.classify.result c.args.class (sym c.ne.ensures ∙ c.if-ne.true) (c.classify.ensures ∙ ap class c.from.ensures ∙ e)) in
     let i = c.loop-i.invariant in
     omega arith
 

@@ -1,4 +1,4 @@
-use Rattle.std.proofs.Common.{◌≡◌, suc, ◌+◌, ◌≤◌, length, take, drop, sym, ap, ◌∙◌, add-one, arith, true-eqb}
+use Rattle.std.proofs.Common.{suc, ◌+◌, length, take, drop, sym, ap, ◌∙◌, add-one, arith, true-eqb}
 use Rattle.std.proofs.lemmas.List.{length-drop, drop_all, drop-drop, nil_from_length, take_rest}
 use Rattle.text.specs.Lines.{line_length}
 use Rattle.text.proofs.Splitting.{line_within, first_line}

@@ -1,4 +1,4 @@
-use Rattle.std.proofs.Common.{◌≡◌, ◌+◌, true, false, ◌⊎◌, [], is_ok, sym, refl, ap, ◌∙◌, inl, inr}
+use Rattle.std.proofs.Common.{◌≡◌, ◌+◌, true, false, ◌⊎◌, [], is_ok, sym, ap, ◌∙◌, inl, inr}
 use Rattle.text.specs.Script.{lines}
 use Rattle.text.proofs.Advancing.{begun_line}
 use Rattle.text.proofs.reader.Reader.begin.Goals as goal

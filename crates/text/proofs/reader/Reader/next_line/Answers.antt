@@ -1,8 +1,8 @@
-use Rattle.std.proofs.Common.{◌≡◌, Bool, true, false, Ok, Err, Result, sym, refl, ap, ◌∙◌, true-eqb}
+use Rattle.std.proofs.Common.{Bool, Err, Result, sym, refl, ap, ◌∙◌, true-eqb}
 use Rattle.std.proofs.lemmas.List.{nil_from_length}
 use Rattle.std.proofs.lemmas.Result.{err_from_is_err_and}
 use Rattle.text.specs.Reading.{state}
-use Rattle.text.specs.Script.{State, advanced, lines}
+use Rattle.text.specs.Script.{State, lines}
 use Rattle.text.specs.declared.fault.Fault.{Fault}
 use Rattle.text.proofs.Advancing.{at_end, at_fault, at_tokens, at_none}
 use Rattle.text.proofs.Grammar.{grammar}
@@ -18,7 +18,7 @@ loop-self-init c = (tokens_none _ _ refl, refl)
 
 pub returns-in_err-begin : goal.returns-in_err-begin
 returns-in_err-begin c =
-    let out = err_from_is_err_and c.from-residual.result c.from-residual.ensures.1 in
+    let out = err_from_is_err_and c.from_residual.result c.from_residual.ensures.1 in
     let all = sym (at_fault (state c.loop-self.self) (state c.begin.new.self) _ c.in_err-begin.ensures.begun c.in_err-begin.field-0.0 refl) ∙ c.loop-self.invariant.1 in
     record {
       value = out.1 ∙ ap Err out.2 ∙ ap (λ (a : Answer). a.0) all;
