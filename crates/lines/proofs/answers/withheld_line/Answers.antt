@@ -3,15 +3,15 @@ use Rattle.lines.proofs.Placing.{stopped, went_on, went_over}
 use Rattle.lines.proofs.answers.withheld_line.Goals as goal
 
 pub returns-in_err-opened : goal.returns-in_err-opened
-returns-in_err-opened c = stopped _ c.from-residual.ensures (stopped _ refl c.in_err-opened.ensures)
+returns-in_err-opened c = stopped _ c.from_residual.ensures (stopped _ refl c.in_err-opened.ensures)
 
 pub returns-in_err-chained : goal.returns-in_err-chained
 returns-in_err-chained c =
-    stopped _ c.from-residual-in_err-chained.ensures (went_over refl c.in_ok-opened.ensures c.in_err-chained.ensures)
+    stopped _ c.from_residual-in_err-chained.ensures (went_over refl c.in_ok-opened.ensures c.in_err-chained.ensures)
 
 pub returns-in_err-put : goal.returns-in_err-put
 returns-in_err-put c =
-    went_over c.from-residual-in_err-put.ensures (went_on c.in_ok-opened.ensures c.in_ok-chained.ensures) c.in_err-put.ensures
+    went_over c.from_residual-in_err-put.ensures (went_on c.in_ok-opened.ensures c.in_ok-chained.ensures) c.in_err-put.ensures
 
 pub returns : goal.returns
 returns c =

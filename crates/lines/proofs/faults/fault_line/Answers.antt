@@ -14,12 +14,12 @@ both line column layer n word is =
 
 pub returns-in_err-placed : goal.returns-in_err-placed
 returns-in_err-placed c =
-    let w : Wrote (fault_line c.args.line c.args.column c.args.layer c.args.number) _ _ _ = stopped _ c.from-residual.ensures (stopped _ refl (stopped _ refl c.in_err-placed.ensures)) in
+    let w : Wrote (fault_line c.args.line c.args.column c.args.layer c.args.number) _ _ _ = stopped _ c.from_residual.ensures (stopped _ refl (stopped _ refl c.in_err-placed.ensures)) in
     record { text = w; whole = whole w (fault_long c.args.line c.args.column c.args.layer c.args.number) }
 
 pub returns-in_err-put_form : goal.returns-in_err-put_form
 returns-in_err-put_form c =
-    let w = called (both c.args.line c.args.column c.args.layer c.args.number _ c.word.ensures) (went_over c.from-residual-in_err-put_form.ensures c.in_ok-placed.ensures c.in_err-put_form.ensures) in
+    let w = called (both c.args.line c.args.column c.args.layer c.args.number _ c.word.ensures) (went_over c.from_residual-in_err-put_form.ensures c.in_ok-placed.ensures c.in_err-put_form.ensures) in
     record { text = w; whole = whole w (fault_long c.args.line c.args.column c.args.layer c.args.number) }
 
 pub returns : goal.returns

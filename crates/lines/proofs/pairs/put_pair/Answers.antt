@@ -10,11 +10,11 @@ both opening low high p closing =
     sym (append_assoc (form_text opening (low ∷ high ∷ []) (codes " (range")) (numbers (p.low ∷ p.high ∷ [])) closing)
 
 pub returns-in_err-opened : goal.returns-in_err-opened
-returns-in_err-opened c = stopped _ c.from-residual.ensures (stopped _ refl c.in_err-opened.ensures)
+returns-in_err-opened c = stopped _ c.from_residual.ensures (stopped _ refl c.in_err-opened.ensures)
 
 pub returns-in_err-put_form : goal.returns-in_err-put_form
 returns-in_err-put_form c =
-    called (both c.args.opening.now c.args.low c.args.high c.args.pair c.args.closing.now) (went_over c.from-residual-in_err-put_form.ensures c.in_ok-opened.ensures c.in_err-put_form.ensures)
+    called (both c.args.opening.now c.args.low c.args.high c.args.pair c.args.closing.now) (went_over c.from_residual-in_err-put_form.ensures c.in_ok-opened.ensures c.in_err-put_form.ensures)
 
 pub returns : goal.returns
 returns c =

@@ -8,7 +8,7 @@ loop-step-init c = begun _
 
 pub returns-in_err-len : goal.returns-in_err-len
 returns-in_err-len c =
-    turned_over step_text c.args.steps.now c.loop-step.step-index _ (omega arith) c.from-residual.ensures c.loop-step.invariant c.in_err-len.ensures
+    turned_over step_text c.args.steps.now c.loop-step.step-index _ (omega arith) c.from_residual.ensures c.loop-step.invariant c.in_err-len.ensures
 
 pub loop-step-preserved : goal.loop-step-preserved
 loop-step-preserved c =

@@ -8,7 +8,7 @@ loop-n-init c = begun _
 
 pub returns-in_err-len : goal.returns-in_err-len
 returns-in_err-len c =
-    turned_over number_text c.args.row.now c.loop-n.n-index 0 (omega arith) c.from-residual.ensures c.loop-n.invariant c.in_err-len.ensures
+    turned_over number_text c.args.row.now c.loop-n.n-index 0 (omega arith) c.from_residual.ensures c.loop-n.invariant c.in_err-len.ensures
 
 pub loop-n-preserved : goal.loop-n-preserved
 loop-n-preserved c =

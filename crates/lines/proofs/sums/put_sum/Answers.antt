@@ -4,19 +4,19 @@ use Rattle.lines.proofs.sums.put_sum.Goals as goal
 
 pub returns-in_err-opened : goal.returns-in_err-opened
 returns-in_err-opened c =
-    stopped _ c.from-residual.ensures (stopped _ refl (stopped _ refl c.in_err-opened.ensures))
+    stopped _ c.from_residual.ensures (stopped _ refl (stopped _ refl c.in_err-opened.ensures))
 
 pub returns-in_err-named : goal.returns-in_err-named
 returns-in_err-named c =
-    stopped _ c.from-residual-in_err-named.ensures (stopped _ refl (went_over refl c.in_ok-opened.ensures (called c.word.ensures c.in_err-named.ensures)))
+    stopped _ c.from_residual-in_err-named.ensures (stopped _ refl (went_over refl c.in_ok-opened.ensures (called c.word.ensures c.in_err-named.ensures)))
 
 pub returns-in_err-listed : goal.returns-in_err-listed
 returns-in_err-listed c =
-    stopped _ c.from-residual-in_err-listed.ensures (went_over refl (went_on c.in_ok-opened.ensures (called c.word.ensures c.in_ok-named.ensures)) c.in_err-listed.ensures)
+    stopped _ c.from_residual-in_err-listed.ensures (went_over refl (went_on c.in_ok-opened.ensures (called c.word.ensures c.in_ok-named.ensures)) c.in_err-listed.ensures)
 
 pub returns-in_err-put : goal.returns-in_err-put
 returns-in_err-put c =
-    went_over c.from-residual-in_err-put.ensures (went_on (went_on c.in_ok-opened.ensures (called c.word.ensures c.in_ok-named.ensures)) c.in_ok-listed.ensures) c.in_err-put.ensures
+    went_over c.from_residual-in_err-put.ensures (went_on (went_on c.in_ok-opened.ensures (called c.word.ensures c.in_ok-named.ensures)) c.in_ok-listed.ensures) c.in_err-put.ensures
 
 pub returns : goal.returns
 returns c =

@@ -10,11 +10,11 @@ returns-then-n-lt10 t c =
 
 pub returns-in_err-front : goal.returns-in_err-front
 returns-in_err-front t c =
-    called (sym (decimal_step c.args.n (omega arith) (omega arith))) (stopped _ c.from-residual.ensures c.in_err-front.ensures)
+    called (sym (decimal_step c.args.n (omega arith) (omega arith))) (stopped _ c.from_residual.ensures c.in_err-front.ensures)
 
 pub returns-in_err-put : goal.returns-in_err-put
 returns-in_err-put t c =
-    called (sym (decimal_step c.args.n (omega arith) (omega arith))) (went_over c.from-residual-in_err-put.ensures c.in_ok-front.ensures c.in_err-put.ensures)
+    called (sym (decimal_step c.args.n (omega arith) (omega arith))) (went_over c.from_residual-in_err-put.ensures c.in_ok-front.ensures c.in_err-put.ensures)
 
 pub returns : goal.returns
 returns t c =

@@ -20,19 +20,19 @@ fits ts xs e few w =
 
 pub returns-in_err-begun : goal.returns-in_err-begun
 returns-in_err-begun g c =
-    let w : Wrote (rehearsed_line (answered (map ends_of c.args.tries.now) c.args.trials.now)) _ _ _ = stopped (codes ")\n") c.from-residual.ensures (stopped (flat_map tried_text (answered (map ends_of c.args.tries.now) c.args.trials.now)) refl c.in_err-begun.ensures) in
+    let w : Wrote (rehearsed_line (answered (map ends_of c.args.tries.now) c.args.trials.now)) _ _ _ = stopped (codes ")\n") c.from_residual.ensures (stopped (flat_map tried_text (answered (map ends_of c.args.tries.now) c.args.trials.now)) refl c.in_err-begun.ensures) in
     record { text = w; whole = fits c.args.tries.now c.args.trials.now c.requires.each c.requires.few w }
 
 pub returns-in_err-listed : goal.returns-in_err-listed
 returns-in_err-listed g c =
     let w : Wrote (rehearsed_line (answered (map ends_of c.args.tries.now) c.args.trials.now)) _ _ _ =
-    stopped (codes ")\n") c.from-residual-in_err-listed.ensures (went_over refl c.in_ok-begun.ensures c.in_err-listed.ensures) in
+    stopped (codes ")\n") c.from_residual-in_err-listed.ensures (went_over refl c.in_ok-begun.ensures c.in_err-listed.ensures) in
     record { text = w; whole = fits c.args.tries.now c.args.trials.now c.requires.each c.requires.few w }
 
 pub returns-in_err-end_rehearsed : goal.returns-in_err-end_rehearsed
 returns-in_err-end_rehearsed g c =
     let w : Wrote (rehearsed_line (answered (map ends_of c.args.tries.now) c.args.trials.now)) _ _ _ =
-    went_over c.from-residual-in_err-end_rehearsed.ensures (went_on c.in_ok-begun.ensures c.in_ok-listed.ensures) c.in_err-end_rehearsed.ensures.text in
+    went_over c.from_residual-in_err-end_rehearsed.ensures (went_on c.in_ok-begun.ensures c.in_ok-listed.ensures) c.in_err-end_rehearsed.ensures.text in
     record { text = w; whole = fits c.args.tries.now c.args.trials.now c.requires.each c.requires.few w }
 
 pub returns : goal.returns

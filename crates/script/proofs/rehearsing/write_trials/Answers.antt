@@ -12,7 +12,7 @@ loop-i-init g c = begun _
 pub returns-in_err-len : goal.returns-in_err-len
 returns-in_err-len g c =
     let long = answered_length ends_of c.args.tries.now c.args.trials.now c.requires in
-    turned_over tried_text (answered (map ends_of c.args.tries.now) c.args.trials.now) c.loop-i.i no_try (omega arith) c.from-residual.ensures c.loop-i.invariant
+    turned_over tried_text (answered (map ends_of c.args.tries.now) c.args.trials.now) c.loop-i.i no_try (omega arith) c.from_residual.ensures c.loop-i.invariant
     (called (tried_here c.args.tries.now c.args.trials.now c.loop-i.i c.index-tries-i.result _ no_try c.requires (omega arith) c.index-tries-i.is) c.in_err-len.ensures.text)
 
 pub loop-i-preserved : goal.loop-i-preserved
