@@ -17,7 +17,7 @@ use Rattle.ledger.specs.declared.answer.Counts.{Counts}
 use Rattle.ledger.specs.declared.answer.Trial.{Trial}
 use Rattle.ledger.specs.Machine.{Ledger, opened, ranges, Try, Rehearsed}
 use Rattle.ledger.specs.Rules.{Rule}
-use Rattle.ledger.specs.State.{valued_answer, releases_of, state_of, Queried}
+use Rattle.ledger.specs.State.{valued_answer, state_of, Queried}
 use Rattle.ledger.proofs.Releases.{ranges_of}
 use Rattle.audit.specs.declared.call.Call.{Call as Said}
 use Rattle.audit.specs.Course.{valued_reply, table_after, table_left, call_made, calls_made, Told, Performed, Ran}

@@ -1,5 +1,5 @@
 -- The three laws of every list of calls, and the truth of its sums and chains. Assumes nothing.
-use Rattle.std.proofs.Common.{◌≡◌, ℕ, ◌<◌, true, false, List, ◌∷◌, sym, refl, ◌∙◌, subst, inl, inr, arith}
+use Rattle.std.proofs.Common.{◌≡◌, ℕ, ◌<◌, false, List, ◌∷◌, sym, refl, ◌∙◌, subst, inl, inr, arith}
 use Rattle.std.proofs.lemmas.Bool.{both_ways}
 use Rattle.links.specs.declared.step.Range.{Range}
 use Rattle.links.specs.Linked.{Listed, Linked}
@@ -8,16 +8,16 @@ use Rattle.kinds.specs.Group.{Group}
 use Rattle.stores.specs.Log.{Log}
 use Rattle.stores.specs.Sums.{range_sum}
 use Rattle.audit.specs.Readings.{with_readings}
-use Rattle.ledger.specs.Rules.{Rule, Protected}
+use Rattle.ledger.specs.Rules.{Rule}
 use Rattle.judgement.specs.Judgement.{Newly}
 use Rattle.ledger.specs.Judgement.{Judged}
 use Rattle.ledger.specs.Machine.{Ledger, ranges, Query, asked, fault, WellFormed, Outcome, joining, Asked}
 use Rattle.audit.specs.Runs.{Call, Reply, Runs}
 use Rattle.audit.specs.Laws.{Alike, releases, GivesAway, IsWithheld, WithheldExactly, AnyValue}
-use Rattle.ledger.specs.Truth.{Within, TrueTo}
+use Rattle.ledger.specs.Truth.{TrueTo}
 use Rattle.ledger.proofs.Sums.{Upward, cancel}
 use Rattle.audit.proofs.Potentials.{linked_alike, any_sum}
-use Rattle.ledger.proofs.Standing.{some_none, well_formed_range, within_upward, within_linked, sound_opened, asked_within, newly_protected}
+use Rattle.ledger.proofs.Standing.{some_none, within_upward, sound_opened, asked_within, newly_protected}
 use Rattle.audit.proofs.Standing.{sound_run, kept_run, joined_released, Covered, released_covered}
 
 module _ {V : Type 0} (G : Group V) (log : Log V) (rule : Rule) where

@@ -1,5 +1,5 @@
 -- What a judgement says of a try, as the machine has it. Assumes nothing.
-use Rattle.std.proofs.Common.{◌≡◌, ℕ, ◌+◌, ◌<◌, ◌≤◌, Bool, false, List, [], ◌∷◌, ◌++◌, map, length, get_or, take, drop, set, Some, None, Option, sym, ap, ◌∙◌, subst, ⊎_elim, arith, drop-drop, drop-set-lt, MatchOption}
+use Rattle.std.proofs.Common.{◌≡◌, ℕ, ◌+◌, ◌<◌, ◌≤◌, false, List, [], ◌∷◌, ◌++◌, map, length, get_or, take, drop, set, Some, None, Option, sym, ap, ◌∙◌, subst, ⊎_elim, arith, drop-drop, drop-set-lt, MatchOption}
 use mathlib.Core.List.{map-append}
 use mathlib.Core.HLevel.{is_prop→PathP}
 use native.Mathlib.Bridge.{le_prop}
@@ -13,11 +13,10 @@ use Rattle.links.specs.Linked.{Linked}
 use Rattle.links.proofs.Chained.{acyclic}
 use Rattle.links.proofs.Paths.{path, released, with_new, earlier_path, chain_path}
 use Rattle.judgement.specs.Judgement.{Newly, Named}
-use Rattle.ledger.specs.declared.answer.Counts.{Counts}
 use Rattle.ledger.specs.declared.answer.Trial.{Trial}
 use Rattle.ledger.specs.declared.ledger.Ledger.{Ledger}
 use Rattle.ledger.specs.Answers.{counted}
-use Rattle.ledger.specs.Judgement.{Verdict, Judged}
+use Rattle.ledger.specs.Judgement.{Judged}
 use Rattle.ledger.specs.Machine.{Try, try_range, try_fault, Tried, Rehearsed}
 
 -- what is said of links and two boundaries, said of their equals

@@ -4,4 +4,6 @@ mod asking;
 #[cfg(test)]
 mod counts_tests;
 #[cfg(test)]
+mod rehearsal_tests;
+#[cfg(test)]
 mod tables_tests;

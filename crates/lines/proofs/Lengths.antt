@@ -1,5 +1,5 @@
 -- How many bytes the lines take at most.
-use Rattle.std.proofs.Common.{◌≡◌, ℕ, zero, suc, ◌+◌, ◌*◌, ◌/◌, ◌%◌, ◌^◌, ◌<◌, ◌≤◌, Bool, false, eqb, List, [], ◌∷◌, ◌++◌, length, get_or, take, codes, decimal, sym, refl, ap, ◌∙◌, arith, lit<, length-append}
+use Rattle.std.proofs.Common.{◌≡◌, ℕ, zero, suc, ◌+◌, ◌*◌, ◌/◌, ◌%◌, ◌^◌, ◌<◌, ◌≤◌, false, eqb, List, [], ◌∷◌, ◌++◌, length, codes, refl, arith, length-append}
 use Rattle.std.specs.List.{flat_map}
 use Rattle.std.specs.Fmt.{digit_glyph, digits_onto, digits}
 use Rattle.std.proofs.lemmas.Fmt.{length-decimal-le}
@@ -17,7 +17,7 @@ use Rattle.lines.specs.declared.words.KindName.{KindName}
 use Rattle.lines.specs.declared.words.Layer.{Layer}
 use Rattle.lines.specs.Text.{number_text, form_text}
 use Rattle.lines.specs.Words.{kind_word, layer_word, sign_word, origin_word}
-use Rattle.lines.specs.Lines.{numbers, step_text, pair_text, sum_line, withheld_line, trial_text, Tried, tried_text, rehearsed_line, in_order, tally_line, closed_line, fault_line}
+use Rattle.lines.specs.Lines.{numbers, step_text, pair_text, sum_line, withheld_line, trial_text, Tried, tried_text, in_order, tally_line, closed_line, fault_line}
 use Rattle.lines.specs.Fits.{EndsWithin, Modest, RehearsalsFit}
 
 -- any number has at most 64 digits as it is written

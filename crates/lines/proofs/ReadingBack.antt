@@ -1,5 +1,5 @@
 -- What a number's text reads back as.
-use Rattle.std.proofs.Common.{◌≡◌, ℕ, ◌+◌, ◌-◌, ◌*◌, ◌^◌, ◌<◌, ◌≤◌, List, [], ◌∷◌, length, get_or, decimal, arith, rules}
+use Rattle.std.proofs.Common.{ℕ, ◌^◌, ◌<◌, decimal, rules}
 use Rattle.std.proofs.lemmas.Fmt.{decimal_nonempty, digits_decimal, digits_value-decimal, first_decimal}
 use Rattle.std.proofs.lemmas.Str.Parse.{IsNumeralModel, FoldsDigits, tells_by_index, numerals_by_fold}
 use Rattle.lines.specs.Digits.{read_on, AllDigits, ReadAs}

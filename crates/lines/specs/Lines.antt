@@ -10,7 +10,7 @@ use Rattle.ledger.specs.declared.answer.Trial.{Trial}
 use Rattle.ledger.specs.Answers.{number}
 use Rattle.lines.specs.declared.words.KindName.{KindName}
 use Rattle.lines.specs.declared.words.Layer.{Layer}
-use Rattle.lines.specs.Text.{number_text, form_text}
+use Rattle.lines.specs.Text.{number_text}
 use Rattle.lines.specs.Words.{kind_word, layer_word, sign_word, origin_word}
 
 -- numbers in base ten, a blank before each

@@ -1,5 +1,5 @@
 -- The chain of a withheld query is short enough to be printed, and its ends are small. Assumes nothing.
-use Rattle.std.proofs.Common.{◌≡◌, ℕ, ◌<◌, ◌≤◌, List, [], ◌∷◌, length, take, drop, sym, refl, ap, ◌∙◌, subst, arith}
+use Rattle.std.proofs.Common.{◌≡◌, ℕ, ◌<◌, ◌≤◌, List, [], ◌∷◌, length, take, drop, sym, ap, ◌∙◌, subst, arith}
 use lib.Seq.{take-append_seam}
 use Rattle.kinds.specs.Group.{Group}
 use Rattle.links.specs.declared.step.Origin.{Origin}
@@ -9,10 +9,10 @@ use Rattle.links.specs.declared.step.Step.{Step}
 use Rattle.links.specs.Chains.{range_of, Source, Sourced}
 use Rattle.stores.specs.Log.{Log}
 use Rattle.ledger.specs.declared.answer.Answer.{Answer}
-use Rattle.ledger.specs.Machine.{Ledger, ranges, Query, asked, Outcome, Asked, written}
+use Rattle.ledger.specs.Machine.{Ledger, ranges, Query, asked, Outcome, Asked}
 use Rattle.ledger.specs.Rules.{Rule}
 use Rattle.ledger.specs.State.{valued_answer}
-use Rattle.ledger.specs.Truth.{Within, TrueTo, Shown}
+use Rattle.ledger.specs.Truth.{Within, TrueTo}
 use Rattle.ledger.proofs.Standing.{Formed, formed, within_listed}
 use Rattle.ledger.proofs.Truth.{asked_shown}
 use Rattle.lines.specs.Fits.{EndsWithin, Modest, ModestAnswer}

@@ -1,8 +1,8 @@
 -- What was written whole stands in the buffer's first bytes.
-use Rattle.std.proofs.Common.{◌≡◌, ℕ, ◌-◌, List, ◌++◌, length, take, drop, Some, sym, ap, ◌∙◌}
+use Rattle.std.proofs.Common.{◌≡◌, ℕ, ◌-◌, List, length, take, drop, Some, ap, ◌∙◌}
 use native.Mathlib.Nat.{sub-zero}
 use lib.Seq.{take-append_seam}
-use Rattle.lines.specs.Text.{Wrote, placed}
+use Rattle.lines.specs.Text.{Wrote}
 use Rattle.lines.proofs.Placing.{fits, placed_whole}
 
 pub put_whole : (text before after : List ℕ) (n : ℕ) → Wrote text before after (Some n) → take (n - 0) after ≡ text

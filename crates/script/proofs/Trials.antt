@@ -1,5 +1,5 @@
 -- Each try stands in the line with its answer. Assumes nothing.
-use Rattle.std.proofs.Common.{◌≡◌, ℕ, zero, suc, ◌<◌, ◌≤◌, List, [], ◌∷◌, map, length, get_or, sym, refl, ap, ◌∙◌, arith}
+use Rattle.std.proofs.Common.{◌≡◌, ℕ, zero, suc, ◌<◌, List, [], ◌∷◌, map, length, get_or, sym, refl, ap, ◌∙◌, arith}
 use Rattle.ledger.specs.declared.answer.Trial.{Trial}
 use Rattle.ledger.specs.declared.trying.Try.{Try}
 use Rattle.lines.specs.Lines.{Tried, trial_text, tried_text}

@@ -1,9 +1,8 @@
-use Rattle.std.proofs.Common.{◌≡◌, ℕ, List, map, length, take, sym, refl, ap, ◌∙◌, subst}
+use Rattle.std.proofs.Common.{◌≡◌, ℕ, List, map, length, take, refl, ap, ◌∙◌, subst}
 use native.Mathlib.Nat.{sub-zero}
 use Rattle.links.specs.declared.step.Step.{Step}
 use Rattle.links.specs.Joined.{joined}
 use Rattle.stores.specs.Log.{meant}
-use Rattle.ledger.specs.declared.answer.Trial.{Trial}
 use Rattle.ledger.specs.declared.ledger.Ledger.{Ledger}
 use Rattle.ledger.specs.declared.trying.Try.{Try}
 use Rattle.ledger.specs.Machine.{Rehearsed}

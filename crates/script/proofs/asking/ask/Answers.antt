@@ -1,4 +1,4 @@
-use Rattle.std.proofs.Common.{◌≡◌, map, refl, arith}
+use Rattle.std.proofs.Common.{map, refl, arith}
 use Rattle.stores.specs.Log.{meant}
 use Rattle.ledger.specs.State.{rule_of, valued_answer, state_of}
 use Rattle.script.proofs.Modesty.{answer_modest}

@@ -1,4 +1,4 @@
-use Rattle.std.proofs.Common.{◌≡◌, ℕ, ◌≤◌, List, map, length, sym, ◌∙◌, subst, arith}
+use Rattle.std.proofs.Common.{ℕ, List, map, subst}
 use Rattle.lines.specs.Lines.{rehearsed_line}
 use Rattle.script.specs.Session.{answered}
 use Rattle.script.specs.Printed.{ends_of}

@@ -1,4 +1,4 @@
-use Rattle.std.proofs.Common.{◌≡◌, ℕ, ◌≤◌, List, map, length, codes, Option, sym, refl, ap, ◌∙◌, arith}
+use Rattle.std.proofs.Common.{◌≡◌, ℕ, ◌≤◌, List, map, length, codes, Option, refl, arith}
 use Rattle.std.specs.List.{flat_map}
 use Rattle.ledger.specs.declared.answer.Trial.{Trial}
 use Rattle.ledger.specs.declared.trying.Try.{Try}

@@ -1,4 +1,4 @@
-use Rattle.std.proofs.Common.{◌<◌, map, length, arith}
+use Rattle.std.proofs.Common.{map, arith}
 use Rattle.lines.specs.Lines.{tried_text}
 use Rattle.lines.proofs.Placing.{called, begun, turned, turned_over, turned_all}
 use Rattle.script.specs.Session.{answered}

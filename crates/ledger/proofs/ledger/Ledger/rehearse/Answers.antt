@@ -1,11 +1,7 @@
-use Rattle.std.proofs.Common.{◌≡◌, ℕ, ◌+◌, ◌<◌, ◌≤◌, min, List, map, length, get_or, take, sym, refl, ap, ◌∙◌, subst, arith}
+use Rattle.std.proofs.Common.{◌≡◌, ℕ, ◌+◌, ◌<◌, min, length, get_or, sym, refl, ap, ◌∙◌, subst, arith}
 use Rattle.links.specs.declared.links.Links.{Links}
 use Rattle.links.specs.declared.links.saved.Saved.{Saved}
-use Rattle.links.specs.Joined.{joined}
 use Rattle.links.proofs.Same.{links_same}
-use Rattle.ledger.specs.declared.answer.Trial.{Trial}
-use Rattle.ledger.specs.declared.trying.Try.{Try}
-use Rattle.ledger.specs.Machine.{Rehearsed}
 use Rattle.ledger.specs.Tries.{try_of}
 use Rattle.ledger.proofs.Attempts.{Reaches, reaches_next, rehearsed_from, drop_past, ledger_same}
 use Rattle.ledger.proofs.Outcomes.{one_rehearsal}

@@ -1,6 +1,4 @@
 use Rattle.std.proofs.Common.{◌≡◌, ℕ, false, refl, MatchOption}
-use Rattle.links.specs.declared.links.Links.{Links}
-use Rattle.links.specs.declared.step.Range.{Range}
 use Rattle.links.specs.Join.{Made, Declined}
 use Rattle.links.specs.Joined.{joined}
 use Rattle.links.specs.Linked.{Linked}

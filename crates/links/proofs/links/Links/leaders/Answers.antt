@@ -1,6 +1,6 @@
 -- The boundary that a join hung has the leader of its parent, which a newer join hung or none.
-use Rattle.std.proofs.Common.{◌≡◌, ◌-◌, ◌<◌, get_or, refl, arith}
-use Rattle.links.specs.Rows.{parent_at, hung}
+use Rattle.std.proofs.Common.{◌-◌, ◌<◌, get_or, refl, arith}
+use Rattle.links.specs.Rows.{parent_at}
 use Rattle.links.proofs.Sound.{hung_below}
 use Rattle.links.proofs.Tables.{led_none, led_more}
 use Rattle.links.proofs.links.Links.leaders.Goals as goal

@@ -1,0 +1,7 @@
+// Lists of calls at each of the three kinds, stores and rules.
+#![tactic(auto)]
+
+#[cfg(test)]
+mod heard;
+#[cfg(test)]
+mod lists_tests;
