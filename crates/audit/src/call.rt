@@ -2,6 +2,7 @@
 use ledger::Try;
 
 // A query for the sum of a range, or a rehearsal of ranges.
+#[derive(Clone, Copy)]
 pub enum Call<'c, R> {
     Query { low: u32, high: u32 },
     Rehearsal(&'c [Try<R>]),

@@ -3,6 +3,7 @@ use audit::Listener;
 use ledger::{Answer, Counts, Trial};
 use links::Step;
 
+#[derive(Drop)]
 pub struct Heard<K> {
     pub sum: Option<K>,
     pub numbers: [u8; 8],

@@ -38,7 +38,17 @@ fn on_nine_slots(low: u32, high: u32) -> Try<Short> {
 #[test]
 fn watt_hours_in_a_plain_store_under_a_short_rule(rt: HostRuntime) {
     let mut table = [wh(5); 1024];
-    let values = [wh(5), wh(0), wh(7), wh(1), wh(4), wh(2), wh(9), wh(3), wh(0)];
+    let values = [
+        wh(5),
+        wh(0),
+        wh(7),
+        wh(1),
+        wh(4),
+        wh(2),
+        wh(9),
+        wh(3),
+        wh(0),
+    ];
     let marks = [1, 1, 1, 1, 1, 1, 1, 1, 0];
     let store = Plain::new(&values, &marks);
     let tries = [on_nine_slots(4, 8), on_nine_slots(0, 5)];
@@ -96,7 +106,12 @@ fn toggles_in_a_packed_store_under_listed_spans(rt: HostRuntime) {
 #[test]
 fn dials_through_a_window_under_a_joined_rule(rt: HostRuntime) {
     let mut table = [dials(1, 1); 1024];
-    let values = [dials(9_999, 999), dials(1, 1), dials(2, 3), dials(9_998, 998)];
+    let values = [
+        dials(9_999, 999),
+        dials(1, 1),
+        dials(2, 3),
+        dials(9_998, 998),
+    ];
     let marks = [1; 4];
     let store = windowed::<Dials, Plain<Dials>>(Plain::new(&values, &marks), 1, 9);
     let spans = [Span { low: 0, high: 3 }];
