@@ -1,4 +1,6 @@
 // A ledger of watt-hours asked queries in a row, for programs that measure it. Ranges come as numbers, two to a range.
+#![tactic(auto)]
+
 use kinds::Wh;
 use ledger::{Amounts, Answer, Ledger, NewLog, open};
 use links::{Origin, Sign, Step};

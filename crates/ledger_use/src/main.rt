@@ -1,4 +1,6 @@
 // The smallest use of a ledger: opens one on a log of nine slots, asks twice, and closes it.
+#![tactic(auto)]
+
 use kinds::Wh;
 use ledger::{Counts, NewLog, open};
 use links::{Origin, Sign, Step};
