@@ -5,7 +5,7 @@
 #
 # A run is a folder .ci/runs/PROGRAM/NAME/ with `args` (one word to a line), `stdin`, `stdout`, `stderr` and `status`. Where one is
 # missing there are no arguments, no input, no output of that sort, and status 0. `zeros`, in place of `stdin`, is a number of
-# zero bytes that are the input.
+# zero bytes that are the input. `rt run` proves and links a program once, and leaves it in its crate's folder out/.
 set -u
 cd "$(dirname "$0")/.." || exit 2
 cases=$PWD/.ci/runs
@@ -30,7 +30,7 @@ ran() { # PROGRAM/NAME
     [ ! -f "$cases/$1/zeros" ] || head -c "$(cat "$cases/$1/zeros")" /dev/zero >"$made/zeros"
     [ ! -f "$cases/$1/zeros" ] || input=$made/zeros
     [ ! -f "$cases/$1/status" ] || status=$(cat "$cases/$1/status")
-    "target/bin/${1%%/*}" "${words[@]}" <"$input" >"$made/stdout" 2>"$made/stderr"
+    "crates/${1%%/*}/out/${1%%/*}" "${words[@]}" <"$input" >"$made/stdout" 2>"$made/stderr"
     local ended=$?
     as_stored "$1" stdout && as_stored "$1" stderr || return 1
     if [ "$ended" -ne "$status" ]; then
@@ -41,6 +41,15 @@ ran() { # PROGRAM/NAME
 }
 
 [ $# -gt 0 ] || set -- $(cd "$cases" && ls -d */*)
+for program in $(printf '%s\n' "${@%%/*}" | sort -u); do
+    (cd "crates/$program" && rt run) </dev/null >"$made/linked" 2>&1
+    [ -x "crates/$program/out/$program" ] || {
+        tail -n 20 "$made/linked"
+        echo "runs: $program is not linked"
+        exit 1
+    }
+done
+
 failed=0
 for name in "$@"; do
     ran "$name" || failed=$((failed + 1))

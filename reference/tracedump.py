@@ -2,13 +2,15 @@
 """An independent reading of the flash bytes of a trace, and the trace that the repository ships.
 
     python3 reference/tracedump.py KIND [LOW..HIGH ..] < BYTES    prints what `tracedump` must print
-    python3 reference/tracedump.py --make-day > BYTES              the day's trace: 96 quarter hours of `wh`
+    python3 reference/tracedump.py --make NAME > BYTES             a trace that the repository ships: day, relays or dials
 
 It shares no code with the library: it was written from docs/FORMATS.md alone, with Python's own integers.
 """
+import re
 import sys
 
 LIMIT = 1_048_576
+LARGEST = 2**64 - 1
 
 
 class Wh:
@@ -92,9 +94,16 @@ def total(kind, slots, low, high):
     return "sum " + text(value)
 
 
+def number(word):
+    """A decimal number with an optional plus, or None."""
+    value = int(word) if re.fullmatch(r"\+?[0-9]+", word) else None
+    return value if value is not None and value <= LARGEST else None
+
+
 def stretch(word):
     low, dots, high = word.partition("..")
-    return (int(low), int(high)) if dots and low.isdigit() and high.isdigit() else None
+    pair = (number(low), number(high))
+    return pair if dots and None not in pair else None
 
 
 def report(kind, data, words):
@@ -136,15 +145,50 @@ def make_day():
     return b"".join(rows) + b"\x01\x05"  # two bytes left over
 
 
+def make_relays():
+    """Twelve masks of relays, three of them lost by their marks, and two bytes left over."""
+    masks = [1, 2, 3, 1, 0x8000, 0xffff, 0, 0x0180, 0x00ff, 0xff00, 0x5555, 0xaaaa]
+    marks = {3: 2, 8: 0, 11: 254}
+    return b"".join(bytes([marks.get(i, 1)]) + m.to_bytes(2, "little") for i, m in enumerate(masks)) + b"\x01\x00"
+
+
+def make_dials():
+    """Ten pairs of litres and starts: at and beyond each dial's end, and one lost by its mark; no byte left over."""
+    pairs = [(9999, 999), (1, 1), (0, 0), (12, 3), (10000, 0), (0, 1000), (9999, 999), (256, 255), (5, 7), (65535, 65535)]
+    marks = {7: 2}
+    return b"".join(
+        bytes([marks.get(i, 1)]) + l.to_bytes(2, "little") + s.to_bytes(2, "little") for i, (l, s) in enumerate(pairs))
+
+
+TRACES = {"day": make_day, "relays": make_relays, "dials": make_dials}
+
+
+def refusal(words, data):
+    """Why nothing is shown, or None."""
+    if not words:
+        return "no kind: write tracedump KIND [LOW..HIGH ..], KIND being wh, toggles or dials"
+    if words[0] not in KINDS:
+        return "unknown kind: write wh, toggles or dials"
+    if not data:
+        return "no input: the flash bytes of a trace come on standard input"
+    if len(data) > LIMIT:
+        return "too long: a trace has at most 1048576 bytes"
+    return None
+
+
 def main(argv):
-    if argv == ["--make-day"]:
-        sys.stdout.buffer.write(make_day())
-        return
-    kind = KINDS[argv[0]]
+    if argv[:1] == ["--make"]:
+        sys.stdout.buffer.write(TRACES[argv[1]]())
+        return 0
     data = sys.stdin.buffer.read()
-    for line in report(kind, data, argv[1:]):
+    why = refusal(argv, data)
+    if why is not None:
+        print("Error: " + why, file=sys.stderr)
+        return 1
+    for line in report(KINDS[argv[0]], data, argv[1:]):
         print(line)
+    return 0
 
 
 if __name__ == "__main__":
-    main(sys.argv[1:])
+    sys.exit(main(sys.argv[1:]))

@@ -1,4 +1,6 @@
 // The ledger at its limits: the longest log, short tables, and the last query that is counted.
+#![tactic(auto)]
+
 #[cfg(test)]
 mod asking;
 #[cfg(test)]

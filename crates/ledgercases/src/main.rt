@@ -1,4 +1,6 @@
 // Runs the cases that stand on standard input, each on a ledger of its own, and prints every answer: `ledgercases < CASES`.
+#![tactic(auto)]
+
 mod answers;
 mod case;
 mod cases;

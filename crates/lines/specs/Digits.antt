@@ -10,7 +10,7 @@ read_on n (d ∷ ds) = read_on (10 * n + (d - 48)) ds
 abbrev pub AllDigits : List ℕ → Type 0
 AllDigits ds = (k : ℕ) → k < length ds → (48 ≤ slice_index ds k) × (slice_index ds k ≤ 57)
 
--- A text is a number in base ten: one digit or more, which read back as the number, and no leading zero but that of 0 itself.
+-- A text is a number in base ten: one digit or more, which read back as the number; a number above 0 begins with no zero.
 pub record ReadAs (n : ℕ) (ds : List ℕ) : Type 0 where
   pub some : 0 < length ds
   pub digits : AllDigits ds

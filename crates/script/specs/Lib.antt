@@ -1,3 +1,3 @@
--- What a script means, and what it prints.
+-- What is printed of the calls of a script.
 pub mod Session
 pub mod Printed

@@ -1,4 +1,4 @@
-// A whole script: from its bytes to the printed lines.
+// Parts of a script run: a query that is asked and printed, and what is printed of rehearsals, counts and faults.
 #![tactic(auto)]
 
 mod asking;

@@ -1,4 +1,4 @@
-// A rehearsal of a script: its ranges tried on the ledger, and their answers printed in one line.
+// What is printed of a rehearsal: its tries with their answers, in one line.
 ghost use Rattle.std.specs.Prelude.{◌≡◌, ◌<◌, ◌≤◌, map, length};
 ghost use Rattle.std.specs.List.{flat_map};
 ghost use Rattle.lines.specs.Text.{Wrote};

@@ -1,4 +1,6 @@
 // Small cases of the kinds, of the stores and of what is read from them.
+#![tactic(auto)]
+
 #[cfg(test)]
 mod answers;
 #[cfg(test)]

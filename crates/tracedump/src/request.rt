@@ -73,7 +73,7 @@ impl fmt::Display for Refusal {
     }
 }
 
-// What `report` prints of an error: the same line.
+// What `main` prints of an error that it returns: the same line.
 impl fmt::Debug for Refusal {
     fn fmt<W: fmt::Write>(&self, f: &mut fmt::Formatter<W>) -> fmt::Result {
         let refusal = *self;

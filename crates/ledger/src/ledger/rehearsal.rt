@@ -1,6 +1,7 @@
 // A rehearsal: which ranges of a list would be released, on links that then stand as before.
 ghost use Rattle.std.specs.Prelude.{◌≡◌, ◌<◌, ◌≤◌, min, map, length, take, drop, IfOk, Some, None, MatchResult, OnOk};
 ghost use Rattle.links.specs.Joined.{joined};
+ghost use Rattle.links.specs.Rings.{Acyclic};
 ghost use Rattle.ledger.specs.Machine.{Tried, Rehearsed, try_fault};
 ghost use Rattle.ledger.specs.Truth.{OneRehearsal};
 ghost use Rattle.ledger.specs.Tries.{try_of};
@@ -66,6 +67,7 @@ impl Ledger {
         ensures rest { drop result trials.new ≡ drop result trials.old }
         ensures same { self.new ≡ self.old }
         ensures exact { OneRehearsal }
+        ensures acyclic { Acyclic (joined self.old.links) }
     {
         let mut links = Provisional::over(&mut self.links);
         let mut made = 0;

@@ -1,6 +1,7 @@
 use Rattle.std.proofs.Common.{◌≡◌, ℕ, ◌+◌, ◌<◌, min, length, get_or, sym, refl, ap, ◌∙◌, subst, arith}
 use Rattle.links.specs.declared.links.Links.{Links}
 use Rattle.links.specs.declared.links.saved.Saved.{Saved}
+use Rattle.links.proofs.Chained.{acyclic}
 use Rattle.links.proofs.Same.{links_same}
 use Rattle.ledger.specs.Tries.{try_of}
 use Rattle.ledger.proofs.Attempts.{Reaches, reaches_next, rehearsed_from, drop_past, ledger_same}
@@ -26,6 +27,7 @@ returns-then-made-trials g c =
       rest = inv.3;
       same = ledger_same _ _ (put_back c.args.self.now.links _ c.loop-range.links.saved c.over-links.result.saved inv.4 first.rows first.joins c.drop-links.ensures.rows c.drop-links.ensures.joins) refl refl;
       exact = one_rehearsal;
+      acyclic = acyclic c.args.self.now.links;
     }
 
 pub loop-range-preserved : goal.loop-range-preserved
@@ -54,4 +56,5 @@ returns g c =
       rest = inv.3;
       same = ledger_same _ _ (put_back c.args.self.now.links _ c.loop-range.links.saved c.over-links.result.saved inv.4 first.rows first.joins c.drop-links-2.ensures.rows c.drop-links-2.ensures.joins) refl refl;
       exact = one_rehearsal;
+      acyclic = acyclic c.args.self.now.links;
     }
