@@ -1,0 +1,125 @@
+// The lines of the worked sample, byte for byte.
+use kinds::{Dials, Wh};
+use ledger::{Answer, Counts, Fault, Trial};
+use lines::{
+    KindName, Layer, answer_line, begin_rehearsed, closed_line, end_rehearsed, fault_line,
+    has_room, tally_line, write_number, write_trial,
+};
+use links::{Origin, Range, Sign, Step};
+
+const COUNTS: Counts = Counts {
+    released: 4,
+    withheld: 1,
+    lost: 1,
+    malformed: 1,
+};
+
+// Whether so many bytes of a buffer are this text.
+fn holds(buffer: &[u8], written: Option<usize>, text: &[u8]) -> bool {
+    match written {
+        Some(n) => n == text.len() && buffer.len() >= n && &buffer[0..n] == text,
+        None => false,
+    }
+}
+
+#[test]
+fn answers_to_queries(rt: HostRuntime) {
+    let mut out = [0; 80];
+    let chain = [
+        Step {
+            low: 0,
+            high: 5,
+            sign: Sign::Plus,
+            origin: Origin::New,
+        },
+        Step {
+            low: 1,
+            high: 5,
+            sign: Sign::Minus,
+            origin: Origin::Released,
+        },
+        Step {
+            low: 7,
+            high: 8,
+            sign: Sign::Plus,
+            origin: Origin::Released,
+        },
+    ];
+    let sum = Answer::Released(Wh { amount: 13 });
+    let n = answer_line(&mut out, KindName::Wh, 0, 4, &sum, &chain);
+    assert_eq!(rt; holds(&out, n, b"(sum 0 4 (wh 13))\n"), true);
+    let both = Answer::Released(Dials {
+        litres: 10_012,
+        starts: 3,
+    });
+    let n = answer_line(&mut out, KindName::Dials, 4, 8, &both, &chain);
+    assert_eq!(rt; holds(&out, n, b"(sum 4 8 (dials 12 3))\n"), true);
+    let withheld: Answer<Wh> = Answer::Withheld(Range { low: 0, high: 1 }, 2);
+    let n = answer_line(&mut out, KindName::Wh, 0, 5, &withheld, &chain);
+    assert_eq!(rt;
+        holds(
+            &out,
+            n,
+            b"(withheld 0 5 (range 0 1) (chain (+ 0 5 new) (- 1 5)))\n"
+        ),
+        true
+    );
+    let lost: Answer<Wh> = Answer::LostSlot(8);
+    let n = answer_line(&mut out, KindName::Wh, 5, 9, &lost, &chain);
+    assert_eq!(rt; holds(&out, n, b"(lost 5 9 8)\n"), true);
+    let refused: Answer<Wh> = Answer::Refused(Fault::Beyond);
+    let n = answer_line(&mut out, KindName::Wh, 2, 10, &refused, &chain);
+    assert_eq!(rt; holds(&out, n, b"(refused 2 10 5)\n"), true);
+}
+
+#[test]
+fn answers_to_tries(rt: HostRuntime) {
+    let mut out = [0; 80];
+    let mut len = begin_rehearsed(&mut out).unwrap_or(80);
+    let tries = [
+        (4, 8, Trial::Free),
+        (0, 5, Trial::Withheld(Range { low: 0, high: 1 })),
+        (3, 3, Trial::Refused(Fault::Backward)),
+    ];
+    for (low, high, trial) in tries {
+        if len <= 80 {
+            len += write_trial(&mut out[len..], low, high, trial).unwrap_or(80);
+        }
+    }
+    if len <= 80 {
+        len += end_rehearsed(&mut out[len..]).unwrap_or(80);
+    }
+    assert_eq!(rt;
+        holds(
+            &out,
+            Some(len),
+            b"(rehearsed (free 4 8) (withheld 0 5 (range 0 1)) (refused 3 3 6))\n"
+        ),
+        true
+    );
+}
+
+#[test]
+fn counts_faults_and_numbers(rt: HostRuntime) {
+    let mut out = [0; 40];
+    let n = tally_line(&mut out, COUNTS);
+    assert_eq!(rt; holds(&out, n, b"(tally 4 1 1 1)\n"), true);
+    let n = closed_line(&mut out, COUNTS);
+    assert_eq!(rt; holds(&out, n, b"(closed 4 1 1 1)\n"), true);
+    let n = fault_line(&mut out, 12, 2, Layer::Form, 21);
+    assert_eq!(rt; holds(&out, n, b"(fault 12 2 form 21)\n"), true);
+    let n = fault_line(&mut out, 0, 0, Layer::Text, 11);
+    assert_eq!(rt; holds(&out, n, b"(fault 0 0 text 11)\n"), true);
+    let n = write_number(&mut out, 18_446_744_073_709_551_615);
+    assert_eq!(rt; holds(&out, n, b"18446744073709551615"), true);
+}
+
+#[test]
+fn a_short_buffer_holds_no_line(rt: HostRuntime) {
+    assert_eq!(rt; tally_line(&mut [0; 15], COUNTS).is_none(), true);
+    assert_eq!(rt; has_room(&[0; 16_384]).is_ok(), true);
+    match has_room(&[0; 16_383]) {
+        Ok(()) => assert!(rt; false, "too short"),
+        Err(short) => assert_eq!(rt; short.number(), 31),
+    }
+}
