@@ -8,20 +8,23 @@ pub struct Range {
 }
 
 // Which way a step goes over its range: `Plus` from the low to the high end, `Minus` back.
-#[derive(Clone, Copy, Debug, PartialEq, Eq)]
+#[derive(Clone, Copy, Debug, Default, PartialEq, Eq)]
 pub enum Sign {
+    #[default]
     Plus,
     Minus,
 }
 
 // Where a step's range comes from: an earlier release, or the query that is being judged.
-#[derive(Clone, Copy, Debug, PartialEq, Eq)]
+#[derive(Clone, Copy, Debug, Default, PartialEq, Eq)]
 pub enum Origin {
+    #[default]
     Released,
     New,
 }
 
-#[derive(Clone, Copy, Debug, PartialEq, Eq)]
+// A table of steps that none is written in yet holds the default ones.
+#[derive(Clone, Copy, Debug, Default, PartialEq, Eq)]
 pub struct Step {
     pub low: u16,
     pub high: u16,
