@@ -5,7 +5,6 @@ ghost use Rattle.std.specs.Prelude.{◌≡◌, ℕ, Bool};
 ghost use Rattle.rules.specs.Ordered.{Ordered};
 
 mod joined;
-mod make;
 mod short;
 mod spans;
 #[cfg(test)]
@@ -19,7 +18,7 @@ pub use spans::{Span, Spans};
 pub trait Rule {
     ghost protects: { Self → ℕ → ℕ → Bool };
 
-    // The law that each rule proves of itself.
+    // What each rule proves of itself. It is no law below `fn protects`, since clauses of the ledger name it, and none can name a law.
     ghost ordered: { (rule : Self) → Ordered (protects rule) };
 
     fn protects(&self, low: u32, high: u32) -> bool

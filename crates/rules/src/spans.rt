@@ -1,25 +1,17 @@
 // The rule of listed ranges: those that a list names, one by one.
 ghost use Rattle.std.specs.Prelude.{◌≡◌};
 ghost use Rattle.rules.specs.Ordered.{spans_ordered};
-ghost use Rattle.rules.specs.Pairs.{equals, listed, spans};
+ghost use Rattle.rules.specs.Pairs.{Same, listed, spans};
 
 use crate::Rule;
 
 const MOST: usize = 32;
 
 // Any pair may be listed; one whose low end is not below its high end is never protected.
-#[derive(Clone, Copy)]
+#[derive(Clone, Copy, Debug, PartialEq, Eq)]
 pub struct Span {
     pub low: u32,
     pub high: u32,
-}
-
-impl Span {
-    fn equals(self, low: u32, high: u32) -> bool
-        ensures { result ≡ equals self low high }
-    {
-        self.low == low && self.high == high
-    }
 }
 
 #[derive(Clone, Copy)]
@@ -27,12 +19,20 @@ pub struct Spans<'a> {
     pub(crate) list: &'a [Span],
 }
 
-impl Spans<'_> {
-    fn lists(&self, low: u32, high: u32) -> bool
-        ensures { result ≡ listed self.now.list.now low high }
+impl<'a> Spans<'a> {
+    // Protects the listed ranges, at most 32; made with a longer list it protects every range.
+    pub fn new(list: &'a [Span]) -> Spans<'a>
+        ensures { Same (⟦<Spans<'a> as Rule>⟧.protects result) (spans list.now) }
+    {
+        Spans { list }
+    }
+
+    // Stays: a rule of the project wants a loop over the elements of the slice here.
+    fn lists(&self, pair: Span) -> bool
+        ensures { result ≡ listed self.now.list.now pair.low pair.high }
     {
         for span in self.list {
-            if span.equals(low, high) {
+            if *span == pair {
                 return true;
             }
         }
@@ -46,6 +46,6 @@ impl<'a> Rule for Spans<'a> {
     ghost ordered = { λ rule. spans_ordered rule.list.now };
 
     fn protects(&self, low: u32, high: u32) -> bool {
-        low < high && (self.list.len() > MOST || self.lists(low, high))
+        low < high && (self.list.len() > MOST || self.lists(Span { low, high }))
     }
 }

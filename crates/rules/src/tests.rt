@@ -53,14 +53,14 @@ fn listed_backwards(rt: HostRuntime) {
     assert!(rt; !rule.protects(3, 3));
     assert!(rt; rule.protects(70000, 70001));
     assert!(rt; !rule.protects(70000, 70002));
-    assert!(rt; !Spans::new(&list[0..0]).protects(4, 2));
+    assert!(rt; !Spans::new(&[]).protects(4, 2));
 }
 
 #[test]
 fn longest_list_and_one_more(rt: HostRuntime) {
     let mut list = [Span { low: 1, high: 3 }; 33];
     list[31] = Span { low: 2, high: 4 };
-    let full = Spans::new(&list[0..32]);
+    let full = Spans::new(&list[..32]);
     assert!(rt; full.protects(2, 4));
     assert!(rt; full.protects(1, 3));
     assert!(rt; !full.protects(0, 9));
