@@ -20,4 +20,3 @@ pub mod Chained
 pub mod Labels
 pub mod Paths
 pub mod Lengths
-pub mod Same

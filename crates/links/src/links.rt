@@ -7,12 +7,10 @@ mod chains;
 mod join;
 mod leaders;
 mod open;
-mod saved;
 mod table;
 
 use crate::row::Row;
 pub use join::Hung;
-pub(crate) use saved::Saved;
 
 // Which boundaries are linked, and by which ranges. Links can't be copied, and are taken apart by `close` alone.
 pub struct Links {

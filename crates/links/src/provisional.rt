@@ -3,20 +3,20 @@ ghost use Rattle.std.specs.Prelude.{◌≡◌, MatchOption};
 ghost use Rattle.links.specs.Join.{Made, Declined};
 
 use crate::boundary::Boundary;
-use crate::links::{Hung, Links, Saved};
+use crate::links::{Hung, Links};
+use std::mem::replace;
 
 // The links that it borrows may be joined further. When it ends, by whatever way out, they hold what they held before.
 pub struct Provisional<'a> {
     links: &'a mut Links,
-    saved: Saved,
+    saved: Links,
 }
 
 impl<'a> Provisional<'a> {
     pub fn over(links: &'a mut Links) -> Provisional<'a>
         ensures named { result.links.ghost_name ≡ links.entry.ghost_name }
         ensures same { result.links.now ≡ links.old }
-        ensures rows { result.saved.rows ≡ links.old.rows }
-        ensures joins { result.saved.joins ≡ links.old.joins }
+        ensures saved { result.saved ≡ links.old }
     {
         let saved = links.saved();
         Provisional { links, saved }
@@ -41,11 +41,9 @@ impl<'a> Provisional<'a> {
 
 impl Drop for Provisional<'_> {
     fn drop(self)
-        ensures rows { self.exit.0.now.rows ≡ self.entry.saved.rows }
-        ensures joins { self.exit.0.now.joins ≡ self.entry.saved.joins }
+        ensures { self.exit.0.now ≡ self.entry.saved }
     {
-        let saved = self.saved;
-        self.links.restore(saved);
-        let Provisional { links: _, saved: _ } = self;
+        let Provisional { links, saved } = self;
+        replace(links, saved).close();
     }
 }

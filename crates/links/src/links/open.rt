@@ -21,6 +21,16 @@ impl Links {
         Links { rows, joins: 0 }
     }
 
+    // The same links once more. Only the guard of provisional joins holds links twice.
+    pub(crate) fn saved(&self) -> Links
+        ensures { result ≡ self.now }
+    {
+        Links {
+            rows: self.rows,
+            joins: self.joins,
+        }
+    }
+
     // Lets links go.
     pub fn close(self) {
         let Links { rows: _, joins: _ } = self;

@@ -1,17 +1,9 @@
 use Rattle.std.proofs.Common.{◌≡◌, ℕ, ◌+◌, ◌<◌, min, length, get_or, sym, refl, ap, ◌∙◌, subst, arith}
-use Rattle.links.specs.declared.links.Links.{Links}
-use Rattle.links.specs.declared.links.saved.Saved.{Saved}
 use Rattle.links.proofs.Chained.{acyclic}
-use Rattle.links.proofs.Same.{links_same}
 use Rattle.ledger.specs.Tries.{try_of}
 use Rattle.ledger.proofs.Attempts.{Reaches, reaches_next, rehearsed_from, drop_past, ledger_same}
 use Rattle.ledger.proofs.Outcomes.{one_rehearsal}
 use Rattle.ledger.proofs.ledger.Ledger.rehearse.Goals as goal
-
--- the links put back are those from before
-put_back : (before after : Links) (held saved : Saved) → held ≡ saved → saved.rows ≡ before.rows → saved.joins ≡ before.joins → after.rows ≡ held.rows → after.joins ≡ held.joins → after ≡ before
-put_back before after held saved e rows joins rows' joins' =
-    links_same after before (rows' ∙ ap (λ (s : Saved). s.rows) e ∙ rows) (joins' ∙ ap (λ (s : Saved). s.joins) e ∙ joins)
 
 pub loop-range-init : goal.loop-range-init
 loop-range-init g c = (refl, omega arith, Reaches.none, refl, refl, refl)
@@ -25,7 +17,7 @@ returns-then-made-trials g c =
       many = let e : c.loop-range.made ≡ c.loop-range.range-index = inv.0 in let h = inv.1 in let m : c.loop-range.made ≡ min (length c.args.tries.now) (length c.args.trials.now) = omega arith in m;
       tried = rehearsed_from c.over-links.result.links.now c.args.self.now.links first.same inv.2;
       rest = inv.3;
-      same = ledger_same _ _ (put_back c.args.self.now.links _ c.loop-range.links.saved c.over-links.result.saved inv.4 first.rows first.joins c.drop-links.ensures.rows c.drop-links.ensures.joins) refl refl;
+      same = ledger_same _ _ (c.drop-links.ensures ∙ (inv.4 ∙ first.saved)) refl refl;
       exact = one_rehearsal;
       acyclic = acyclic c.args.self.now.links;
     }
@@ -54,7 +46,7 @@ returns g c =
       many = let e : c.loop-range.made ≡ c.loop-range.range-index = inv.0 in let h = inv.1 in let m : c.loop-range.made ≡ min (length c.args.tries.now) (length c.args.trials.now) = omega arith in m;
       tried = rehearsed_from c.over-links.result.links.now c.args.self.now.links first.same inv.2;
       rest = inv.3;
-      same = ledger_same _ _ (put_back c.args.self.now.links _ c.loop-range.links.saved c.over-links.result.saved inv.4 first.rows first.joins c.drop-links-2.ensures.rows c.drop-links-2.ensures.joins) refl refl;
+      same = ledger_same _ _ (c.drop-links-2.ensures ∙ (inv.4 ∙ first.saved)) refl refl;
       exact = one_rehearsal;
       acyclic = acyclic c.args.self.now.links;
     }
