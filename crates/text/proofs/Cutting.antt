@@ -1,6 +1,7 @@
 -- How a line's runs follow one another. Assumes nothing.
 use Rattle.std.proofs.Common.{◌≡◌, ℕ, suc, ◌+◌, ◌<◌, ◌≤◌, true, false, cond, ◌&&◌, List, [], ◌∷◌, length, get_or, take, drop, sym, refl, ap, ◌∙◌, ⊎_elim, one-add, arith, take-append-drop}
-use Rattle.std.proofs.lemmas.List.{at_drop_more, at_drop_all, length-take-le}
+use Rattle.std.proofs.lemmas.List.{length-take-le}
+use Rattle.std.proofs.lemmas.List.Sums.{prefix_len-le-length}
 use Rattle.std.proofs.lemmas.Bool.{cond-true, cond-false, and_from, and_left, and_right, cases_Bool, cond_both}
 use Rattle.text.specs.Alphabet.{class, same, joins}
 use Rattle.text.specs.Runs.{run_length, Run, before, runs, CutOff}
@@ -8,40 +9,19 @@ use Rattle.text.specs.declared.alphabet.Class.{Class}
 use Rattle.text.proofs.Classes.{class_same, class_other, same_class, other}
 
 pub run_none : (k : Class) → run_length k [] ≡ 0
-unfolding run_length
 run_none k = refl
 
 pub run_goes_on : (k : Class) (b : ℕ) (bs : List ℕ) → class b ≡ k → run_length k (b ∷ bs) ≡ 1 + run_length k bs
-unfolding run_length
 run_goes_on k b bs e = cond-true _ _ _ (class_same _ _ e)
 
 pub run_stops : (k : Class) (b : ℕ) (bs : List ℕ) → (class b ≡ k → ⊥) → run_length k (b ∷ bs) ≡ 0
-unfolding run_length
 run_stops k b bs n = cond-false _ _ _ (class_other _ _ n)
 
-pub run_more : (k : Class) (bs : List ℕ) (i : ℕ) → i < length bs → class (get_or bs i 0) ≡ k → i + run_length k (drop i bs) ≡ i + 1 + run_length k (drop (i + 1) bs)
-run_more k bs i h e =
-    let on = at_drop_more (run_length k) bs i 0 h ∙ run_goes_on k _ _ e in
-    omega arith
-
-pub run_ends : (k : Class) (bs : List ℕ) (i : ℕ) → i < length bs → (class (get_or bs i 0) ≡ k → ⊥) → run_length k (drop i bs) ≡ 0
-run_ends k bs i h n = at_drop_more (run_length k) bs i 0 h ∙ run_stops k _ _ n
-
-pub run_all : (k : Class) (bs : List ℕ) (i : ℕ) → length bs ≤ i → run_length k (drop i bs) ≡ 0
-run_all k bs i h = at_drop_all (run_length k) bs i h ∙ run_none k
-
 pub run_off : (k : Class) (b : ℕ) (bs : List ℕ) → same (class b) k ≡ false → run_length k (b ∷ bs) ≡ 0
-unfolding run_length
 run_off k b bs e = cond-false _ _ _ e
 
 pub run_within : (k : Class) (bs : List ℕ) → run_length k bs ≤ length bs
-run_within k [] = let n = run_none k in omega arith
-run_within k (b ∷ bs) =
-    let rest = run_within k bs in
-    ⊎_elim
-    (λ e. let on = run_goes_on k b bs (same_class _ _ e) in omega arith)
-    (λ e. let off = run_off k b bs e in omega arith)
-    (cases_Bool (same (class b) k))
+run_within k bs = prefix_len-le-length (λ b. same (class b) k) bs
 
 -- a byte that joins no run is one by itself
 alone : (k : Class) (b : ℕ) (rs : List Run) → joins k ≡ false → before k b rs ≡ (k, b ∷ []) ∷ rs
@@ -73,7 +53,7 @@ abbrev pub cut_at : Class → ℕ → List ℕ → ℕ → List Run
 cut_at k b bs n = (k, b ∷ take n bs) ∷ runs (drop n bs)
 
 runs_one : (k : Class) (b : ℕ) → class b ≡ k → runs (b ∷ []) ≡ cut_at k b [] (run_length k [])
-unfolding runs run_length
+unfolding runs
 runs_one k b e = ap (λ j. (j, b ∷ []) ∷ []) e
 
 pub runs_joined : (k : Class) → joins k ≡ true → (b : ℕ) (bs : List ℕ) → class b ≡ k → runs (b ∷ bs) ≡ cut_at k b bs (run_length k bs)

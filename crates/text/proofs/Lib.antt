@@ -1,8 +1,10 @@
+pub mod Positions
 pub mod Classes
 pub mod Cutting
 pub mod Values
 pub mod Judged
 pub mod Tokening
+pub mod Finding
 pub mod Splitting
 pub mod Advancing
 pub mod Bytes

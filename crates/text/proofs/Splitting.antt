@@ -1,39 +1,12 @@
 -- How a text's lines follow one another. Assumes nothing.
-use Rattle.std.proofs.Common.{◌≡◌, ℕ, zero, suc, ◌+◌, ◌<◌, ◌≤◌, true, false, eqb, List, [], ◌∷◌, ◌++◌, length, get_or, take, drop, sym, refl, ap, ◌∙◌, subst, inl, inr, ⊎_elim, one-add, arith}
-use Rattle.std.proofs.lemmas.List.{at_drop_more, at_drop_all, length-take-le, length-drop}
-use Rattle.std.proofs.lemmas.Bool.{cond-true, cond-false, cases_Bool, eq-eqb, ne_eqb, eqb-true, eqb-false}
-use Rattle.text.specs.Lines.{line_length, FirstLine}
+use Rattle.std.proofs.Common.{drop-cons, add-one, get_or-take, take-append-drop, Some, None, ◌≡◌, ℕ, zero, suc, ◌+◌, ◌<◌, true, false, eqb, List, [], ◌∷◌, ◌++◌, length, take, drop, sym, refl, ap, ◌∙◌, subst, inl, inr, ⊎_elim, arith}
+use Rattle.std.proofs.lemmas.Bool.{both_ways, cond-true, cond-false, cases_Bool, eq-eqb, ne_eqb, eqb-true, eqb-false}
+use Rattle.std.proofs.lemmas.List.{length-take-le, length-drop}
+use Rattle.std.proofs.lemmas.List.Quantifiers.{position-Some}
+use Rattle.std.specs.List.{position}
+use Rattle.text.specs.Lines.{FirstLine}
+use Rattle.text.proofs.Positions.{position-None}
 use Rattle.text.specs.Script.{lengthened, lines, Unbroken, Split, Splits}
-
-line_ends : (b : ℕ) (bs : List ℕ) → eqb b 10 ≡ true → line_length (b ∷ bs) ≡ 0
-unfolding line_length
-line_ends b bs e = cond-true _ _ _ e
-
-line_goes_on : (b : ℕ) (bs : List ℕ) → eqb b 10 ≡ false → line_length (b ∷ bs) ≡ 1 + line_length bs
-unfolding line_length
-line_goes_on b bs e = cond-false _ _ _ e
-
-line_none : line_length [] ≡ 0
-unfolding line_length
-line_none = refl
-
-pub line_more : (bs : List ℕ) (i : ℕ) → i < length bs → (get_or bs i 0 ≡ 10 → ⊥) → i + line_length (drop i bs) ≡ i + 1 + line_length (drop (i + 1) bs)
-line_more bs i h n = let on = at_drop_more line_length bs i 0 h ∙ line_goes_on _ _ (ne_eqb _ _ n) in omega arith
-
-pub line_over : (bs : List ℕ) (i : ℕ) → i < length bs → get_or bs i 0 ≡ 10 → line_length (drop i bs) ≡ 0
-line_over bs i h e = at_drop_more line_length bs i 0 h ∙ line_ends _ _ (eq-eqb _ _ e)
-
-pub line_all : (bs : List ℕ) (i : ℕ) → length bs ≤ i → line_length (drop i bs) ≡ 0
-line_all bs i h = at_drop_all line_length bs i h ∙ line_none
-
-pub line_within : (bs : List ℕ) → line_length bs ≤ length bs
-line_within [] = let n = line_none in omega arith
-line_within (b ∷ bs) =
-    let rest = line_within bs in
-    ⊎_elim
-    (λ e. let z = line_ends b bs e in omega arith)
-    (λ e. let on = line_goes_on b bs e in omega arith)
-    (cases_Bool (eqb b 10))
 
 pub lines_none : lines [] ≡ []
 unfolding lines
@@ -47,41 +20,8 @@ lines_on : (b : ℕ) (bs : List ℕ) → eqb b 10 ≡ false → lines (b ∷ bs)
 unfolding lines
 lines_on b bs e = cond-false _ _ _ e
 
--- a text cut after n bytes and the byte that follows them
-abbrev cut_line : List ℕ → ℕ → List (List ℕ)
-cut_line bs n = take n bs ∷ lines (drop (suc n) bs)
-
-pub lines_first : (b : ℕ) (bs : List ℕ) → lines (b ∷ bs) ≡ cut_line (b ∷ bs) (line_length (b ∷ bs))
-lines_first b [] =
-    ⊎_elim
-    (λ e. lines_end b [] e ∙ ap (cut_line (b ∷ [])) (sym (line_ends b [] e)))
-    (λ e. lines_on b [] e ∙ ap (lengthened b) lines_none ∙ ap (λ ls. (b ∷ []) ∷ ls) (sym lines_none) ∙ ap (cut_line (b ∷ [])) (sym (line_goes_on b [] e ∙ ap (λ n. 1 + n) line_none)))
-    (cases_Bool (eqb b 10))
-lines_first b (d ∷ bs) =
-    ⊎_elim
-    (λ e. lines_end b (d ∷ bs) e ∙ ap (cut_line (b ∷ d ∷ bs)) (sym (line_ends b (d ∷ bs) e)))
-    (λ e. lines_on b (d ∷ bs) e ∙ ap (lengthened b) (lines_first d bs) ∙ ap (cut_line (b ∷ d ∷ bs)) (sym (line_goes_on b (d ∷ bs) e ∙ one-add _)))
-    (cases_Bool (eqb b 10))
-
--- the first line ends before the first byte 10, and the text goes on behind it
-pub first_line : (text line rest : List ℕ) → line ≡ take (line_length text) text → rest ≡ drop (suc (line_length text)) text → FirstLine text line rest
-first_line [] line rest f r =
-    let n = line_none in
-    let a : length line ≡ 0 = ap length f ∙ ap (λ n. length (take {A = ℕ} n [])) n in
-    let b : length rest ≡ 0 = ap length r in
-    record { within = omega arith; shorter = λ h. absurd (omega arith); first = λ h. absurd (omega arith) }
-first_line (x ∷ text) line rest f r =
-    let w = line_within (x ∷ text) in
-    let a = ap length f ∙ length-take-le (line_length (x ∷ text)) (x ∷ text) w in
-    let b = ap length r ∙ length-drop (suc (line_length (x ∷ text))) (x ∷ text) in
-    record {
-      within = omega arith;
-      shorter = λ h. omega arith;
-      first = λ h. lines_first x text ∙ (λ i. sym f i ∷ lines (sym r i));
-    }
-
 -- a line with its end before a text
-lines_past : (l rest : List ℕ) → Unbroken l → lines (l ++ (10 ∷ rest)) ≡ l ∷ lines rest
+pub lines_past : (l rest : List ℕ) → Unbroken l → lines (l ++ (10 ∷ rest)) ≡ l ∷ lines rest
 lines_past [] rest u = lines_end 10 rest refl
 lines_past (b ∷ l) rest u =
     lines_on b (l ++ (10 ∷ rest)) (ne_eqb b 10 (u 0 (omega arith))) ∙ ap (lengthened b) (lines_past l rest (λ i h. u (suc i) (omega arith)))
@@ -92,7 +32,7 @@ lines_alone b [] u = lines_on b [] (ne_eqb b 10 (u 0 (omega arith))) ∙ ap (len
 lines_alone b (d ∷ l) u =
     lines_on b (d ∷ l) (ne_eqb b 10 (u 0 (omega arith))) ∙ ap (lengthened b) (lines_alone d l (λ i h. u (suc i) (omega arith)))
 
-last_line : (l : List ℕ) → Unbroken l → 0 < length l → lines l ≡ l ∷ []
+pub last_line : (l : List ℕ) → Unbroken l → 0 < length l → lines l ≡ l ∷ []
 last_line [] u h = absurd (omega arith)
 last_line (b ∷ l) u h = lines_alone b l u
 
@@ -128,3 +68,26 @@ lines_split (b ∷ text) =
 
 pub splits : Splits
 splits text ls = (λ e. subst (Split text) e (lines_split text), split_lines ls text)
+
+-- the first byte 10 ends the first line
+pub cut_line : (text : List ℕ) (n : ℕ) → position (λ b. eqb b 10) text ≡ Some n → FirstLine text (take n text) (drop (n + 1) text)
+cut_line text n is =
+    let at = position-Some (λ b. eqb b 10) text n 0 is in
+    let line = length-take-le n text (omega (arith, at.0)) in
+    let rest = length-drop (n + 1) text in
+    let next = drop-cons text n 0 at.0 ∙ (λ i. eqb-true _ 10 at.1 i ∷ drop (sym (add-one n) i) text) in
+    let unbroken : Unbroken (take n text) =
+    λ i h e. both_ways _ (at.2 i (omega (arith, line))) (eq-eqb _ _ (sym (get_or-take n text i 0 (omega (arith, line))) ∙ e)) in
+    record {
+      within = omega (arith, at.0);
+      shorter = λ h. omega arith;
+      first = λ h. ap lines (sym (take-append-drop n text) ∙ ap (λ bs. take n text ++ bs) next) ∙ lines_past _ _ unbroken;
+    }
+
+-- a text with no byte 10 is one line
+pub whole_line : (text : List ℕ) → position (λ b. eqb b 10) text ≡ None → FirstLine text text []
+whole_line text is = record {
+  within = omega arith;
+  shorter = λ h. omega arith;
+  first = λ h. last_line text (λ i l e. both_ways _ (position-None (λ b. eqb b 10) text is i 0 l) (eq-eqb _ _ e)) h ∙ ap (λ ls. text ∷ ls) (sym lines_none);
+}

@@ -30,3 +30,10 @@ not_led ds e h = cond-false _ _ _ e ∙ cond-true _ _ _ (lt-ltb _ _ h)
 pub too_large : (ds : List ℕ) → 2 ^ 32 ≤ value_after 0 ds → number_of ds ≡ None
 too_large ds h =
     ⊎_elim (λ e. cond-true _ _ _ e) (λ e. cond-false _ _ _ e ∙ cond-false _ _ _ (le-ltb _ _ h)) (cases_Bool (zero_led ds))
+
+-- a value that is too large stays so, whatever digits follow
+pub outgrown : (ds : List ℕ) (i n : ℕ) → i < length ds → value_after n (drop i ds) ≡ value_after 0 ds → 2 ^ 32 ≤ 10 * n + (get_or ds i 0 - 48) → number_of ds ≡ None
+outgrown ds i n h is big =
+    let on = value_more n ds i h in
+    let up = value_grows (10 * n + (get_or ds i 0 - 48)) (drop (i + 1) ds) in
+    too_large ds (omega arith)

@@ -1,5 +1,6 @@
 pub mod Alphabet
 pub mod Runs
+pub mod Taken
 pub mod Numbers
 pub mod Faults
 pub mod Judging

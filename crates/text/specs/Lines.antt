@@ -1,11 +1,6 @@
 -- The first line of a text. Assumes nothing.
-use Rattle.std.specs.Prelude.{◌≡◌, ℕ, ◌+◌, ◌<◌, ◌≤◌, cond, List, [], ◌∷◌, length, ◌==◌}
+use Rattle.std.specs.Prelude.{◌≡◌, ℕ, ◌+◌, ◌<◌, ◌≤◌, List, ◌∷◌, length}
 use Rattle.text.specs.Script.{lines}
-
--- how many bytes stand before the first byte 10
-unfoldable pub line_length : List ℕ → ℕ
-line_length [] = 0
-line_length (b ∷ bs) = cond (b == 10) 0 (1 + line_length bs)
 
 -- a text's first line, and the text after it
 pub record FirstLine (text line rest : List ℕ) : Type 0 where

@@ -5,4 +5,4 @@ use Rattle.text.specs.Tokens.{tokens}
 use Rattle.text.specs.declared.reader.Reader.{Reader}
 
 abbrev pub state : Reader → State
-state r = record { number = r.place.line; left = tokens r.place (runs r.line.now); following = lines r.text.now }
+state r = record { number = r.line.place.line; left = tokens r.line.place (runs r.line.rest.now); following = lines r.text.now }

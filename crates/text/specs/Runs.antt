@@ -1,12 +1,12 @@
 -- How a line is cut into runs. Assumes nothing.
-use Rattle.std.specs.Prelude.{◌≡◌, ℕ, ◌+◌, ◌<◌, cond, ◌&&◌, List, [], ◌∷◌, ◌++◌, length, slice_index}
+use Rattle.std.specs.Prelude.{◌≡◌, ℕ, ◌<◌, cond, ◌&&◌, List, [], ◌∷◌, ◌++◌, length, slice_index}
+use Rattle.std.specs.List.{prefix_len}
 use Rattle.text.specs.Alphabet.{class, same, joins}
 use Rattle.text.specs.declared.alphabet.Class.{Class}
 
 -- how many bytes at the front are of one class
-unfoldable pub run_length : Class → List ℕ → ℕ
-run_length k [] = 0
-run_length k (b ∷ bs) = cond (same (class b) k) (1 + run_length k bs) 0
+abbrev pub run_length : Class → List ℕ → ℕ
+run_length k bs = prefix_len (λ b. same (class b) k) bs
 
 -- a run: the class of its bytes, and the bytes
 abbrev pub Run : Type 0

@@ -1,6 +1,6 @@
 // The alphabet of a script: each byte is a bracket, a blank, a digit or a small letter, or lies outside.
 ghost use Rattle.std.specs.Prelude.{◌≡◌};
-ghost use Rattle.text.specs.Alphabet.{class, joins};
+ghost use Rattle.text.specs.Alphabet.{class, joins, same};
 
 #[derive(Clone, Copy, Debug, PartialEq, Eq)]
 pub enum Class {
@@ -34,5 +34,12 @@ impl Class {
             Class::Blank | Class::Digit | Class::Letter => true,
             Class::Open | Class::Close | Class::Outside => false,
         }
+    }
+
+    // Whether a byte is of this class.
+    pub(crate) fn holds(self, byte: u8) -> bool
+        ensures { result ≡ same (class byte) self }
+    {
+        classify(char::from(byte)) == self
     }
 }

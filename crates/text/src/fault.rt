@@ -1,12 +1,25 @@
 // Places in a script, and the faults of its text.
-ghost use Rattle.std.specs.Prelude.{◌≡◌};
-ghost use Rattle.text.specs.Faults.{fault_number, fault_place};
+ghost use Rattle.std.specs.Prelude.{◌≡◌, ◌+◌, ◌^◌, ◌<◌};
+ghost use Rattle.text.specs.Faults.{fault_number, fault_place, along};
 
 // Line and column, both from 1; columns count bytes.
 #[derive(Clone, Copy, Debug, PartialEq, Eq)]
 pub struct Place {
     pub line: u32,
     pub column: u32,
+}
+
+impl Place {
+    // The place so many columns further on in its line.
+    pub(crate) fn after(self, columns: usize) -> Place
+        requires { self.column + columns < 2 ^ 32 }
+        ensures { result ≡ along self columns }
+    {
+        Place {
+            line: self.line,
+            column: self.column + columns as u32,
+        }
+    }
 }
 
 #[derive(Clone, Copy, Debug, PartialEq, Eq)]
@@ -39,9 +52,7 @@ impl Fault {
     {
         match self {
             Fault::TooLong => Place { line: 0, column: 0 },
-            Fault::Outside(place) => *place,
-            Fault::Number(place) => *place,
-            Fault::Bracket(place) => *place,
+            Fault::Outside(place) | Fault::Number(place) | Fault::Bracket(place) => *place,
         }
     }
 }

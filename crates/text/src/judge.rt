@@ -1,63 +1,41 @@
 // The judgement of a line's text, before any token of it is handed out.
-ghost use Rattle.std.specs.Prelude.{◌≡◌, ◌+◌, ◌<◌, ◌≤◌, length};
+ghost use Rattle.std.specs.Prelude.{◌≡◌, ◌+◌, ◌^◌, ◌<◌};
 ghost use Rattle.text.specs.Judging.{depth_after, judged};
 ghost use Rattle.text.specs.Runs.{runs};
 
 use crate::alphabet::Class;
-use crate::fault::{Fault, Place};
+use crate::fault::Fault;
 use crate::number::number;
-use crate::run::first_run;
+use crate::run::{Line, Run};
 
-// How many brackets are open after a run that begins at `place`, or the fault of the run.
-fn depth_after(place: Place, depth: u32, class: Class, run: &[u8]) -> Result<u32, Fault>
-    requires { depth < 65536 }
-    ensures { result ≡ depth_after place depth class run.now }
+// How many brackets are open after a run, or the fault of the run.
+fn depth_after(depth: u32, run: Run<'_>) -> Result<u32, Fault>
+    requires { depth + 1 < 2 ^ 32 }
+    ensures { result ≡ depth_after run.entry.place depth run.entry.class run.entry.bytes.now }
 {
-    match class {
+    match run.class {
         Class::Open => Ok(depth + 1),
-        Class::Close => {
-            if depth == 0 {
-                Err(Fault::Bracket(place))
-            } else {
-                Ok(depth - 1)
-            }
-        }
+        Class::Close => depth.checked_sub(1).ok_or(Fault::Bracket(run.place)),
         Class::Blank | Class::Letter => Ok(depth),
-        Class::Digit => match number(run) {
-            Some(_) => Ok(depth),
-            None => Err(Fault::Number(place)),
-        },
-        Class::Outside => Err(Fault::Outside(place)),
+        Class::Digit => number(run.bytes)
+            .map(|_| depth)
+            .ok_or(Fault::Number(run.place)),
+        Class::Outside => Err(Fault::Outside(run.place)),
     }
 }
 
 // The leftmost fault of a line's text, if it has one.
-pub fn judge(line: &[u8], number: u32) -> Result<(), Fault>
-    requires { length line.now ≤ 65536 }
-    ensures { result ≡ judged (record { line = number; column = 1 }) 0 (runs line.entry.now) }
+pub fn judge(line: Line<'_>) -> Result<(), Fault>
+    ensures { result ≡ judged line.entry.place 0 (runs line.entry.rest.now) }
 {
-    let mut rest = line;
-    let mut column: u32 = 1;
+    let mut left = line;
     let mut depth: u32 = 0;
-    while let Some(cut) = first_run(rest) {
-        depth = depth_after(
-            Place {
-                line: number,
-                column,
-            },
-            depth,
-            cut.class,
-            cut.run,
-        )?;
-        column += cut.run.len() as u32;
-        rest = cut.rest;
+    while let Some(run) = left.next() {
+        depth = depth_after(depth, run)?;
     }
     if depth == 0 {
         Ok(())
     } else {
-        Err(Fault::Bracket(Place {
-            line: number,
-            column,
-        }))
+        Err(Fault::Bracket(left.place))
     }
 }

@@ -1,6 +1,6 @@
 // A script as a text of lines.
 ghost use Rattle.std.specs.Prelude.{◌≡◌};
-ghost use Rattle.text.specs.Lines.{line_length, FirstLine};
+ghost use Rattle.text.specs.Lines.{FirstLine};
 ghost use Rattle.text.specs.Script.{size_judged};
 
 use crate::fault::Fault;
@@ -19,27 +19,12 @@ pub fn sized(script: &[u8]) -> Result<(), Fault>
     }
 }
 
-// How many bytes stand before the first byte 10.
-fn line_length(text: &[u8]) -> usize
-    ensures { result ≡ line_length text.now }
-{
-    for (i, b) in text.iter().enumerate() {
-        if *b == 10 {
-            return i;
-        }
-    }
-    text.len()
-}
-
 // The first line of a text, and the text that follows it.
 pub fn first_line(text: &[u8]) -> (&[u8], &[u8])
     ensures { FirstLine text.now result.0.now result.1.now }
 {
-    let n = line_length(text);
-    let (line, rest) = text.split_at(n);
-    if rest.is_empty() {
-        (line, rest)
-    } else {
-        (line, &rest[1..])
+    match text.iter().position(|byte| *byte == b'\n') {
+        Some(n) => (&text[..n], &text[n + 1..]),
+        None => (text, &text[..0]),
     }
 }

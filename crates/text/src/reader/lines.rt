@@ -8,7 +8,8 @@ use super::Reader;
 use crate::fault::{Fault, Place};
 use crate::judge::judge;
 use crate::reader::tokens::first_token;
-use crate::script::{LONGEST, first_line};
+use crate::run::Line;
+use crate::script::{first_line, sized};
 
 impl<'a> Reader<'a> {
     // A reader before the first line of a script. Of a script that is too long it has nothing to read.
@@ -16,15 +17,16 @@ impl<'a> Reader<'a> {
         ensures value { state result ≡ record { number = 0; left = []; following = lines (readable script.now) } }
         ensures splits { Splits }
     {
-        let text = if script.len() > LONGEST {
-            &script[0..0]
-        } else {
-            script
-        };
         Reader {
-            text,
-            line: &script[0..0],
-            place: Place { line: 0, column: 1 },
+            text: if sized(script).is_ok() {
+                script
+            } else {
+                &script[..0]
+            },
+            line: Line {
+                rest: &script[..0],
+                place: Place { line: 0, column: 1 },
+            },
         }
     }
 
@@ -34,15 +36,15 @@ impl<'a> Reader<'a> {
         ensures begun { Begun (state self.old) result (state self.new) }
         ensures shorter { length self.new.text.now < length self.old.text.now }
     {
-        let (line, text) = first_line(self.text);
-        let number = self.place.line + 1;
-        let judged = judge(line, number);
-        self.text = text;
-        self.line = if judged.is_ok() { line } else { &line[0..0] };
-        self.place = Place {
-            line: number,
+        let (rest, text) = first_line(self.text);
+        let place = Place {
+            line: self.line.place.line + 1,
             column: 1,
         };
+        let judged = judge(Line { rest, place });
+        let rest = if judged.is_ok() { rest } else { &rest[..0] };
+        self.text = text;
+        self.line = Line { rest, place };
         judged
     }
 
@@ -53,10 +55,10 @@ impl<'a> Reader<'a> {
         ensures after { state self.new ≡ (advanced (state self.old).number (state self.old).following).1 }
         ensures grammar { Grammar }
     {
-        self.line = &self.line[0..0];
+        self.line.rest = &self.line.rest[..0];
         while !self.text.is_empty() {
             self.begin()?;
-            if let Some(_) = first_token(self.line, self.place) {
+            if first_token(self.line).is_some() {
                 return Ok(true);
             }
         }

@@ -1,82 +1,55 @@
 // The tokens of the line that a reader is in.
-ghost use Rattle.std.specs.Prelude.{◌≡◌, ◌+◌, ◌≤◌, length, MatchOption};
+ghost use Rattle.std.specs.Prelude.{◌≡◌};
 ghost use Rattle.std.specs.Option.{option_map};
-ghost use Rattle.text.specs.Found.{first, passed, Ended, Next};
-ghost use Rattle.text.specs.Reading.{state};
+ghost use Rattle.text.specs.Found.{FindsToken};
 ghost use Rattle.text.specs.Tokens.{symbol, symbol_of, spot};
 
 use super::Reader;
 use crate::alphabet::Class;
-use crate::fault::Place;
 use crate::number::number;
-use crate::run::{first_run, run_length};
+use crate::run::{Line, Run};
 use crate::token::{Placed, Token};
 
 // The token that a run is, if it is one.
-fn token_of(class: Class, run: &[u8]) -> Option<Token<'_>>
-    ensures { option_map symbol result ≡ symbol_of class run.now }
+fn token_of(run: Run<'_>) -> Option<Token<'_>>
+    ensures { option_map symbol result ≡ symbol_of run.entry.class run.entry.bytes.now }
 {
-    match class {
+    match run.class {
         Class::Open => Some(Token::Open),
         Class::Close => Some(Token::Close),
-        Class::Digit => match number(run) {
-            Some(n) => Some(Token::Number(n)),
-            None => None,
-        },
-        Class::Letter => Some(Token::Word(run)),
+        Class::Digit => Some(Token::Number(number(run.bytes)?)),
+        Class::Letter => Some(Token::Word(run.bytes)),
         Class::Blank | Class::Outside => None,
     }
 }
 
-// A token, and what follows it in its line.
-#[derive(Clone, Copy)]
-pub(super) struct Found<'a> {
-    token: Placed<'a>,
-    rest: &'a [u8],
-    place: Place,
-}
-
-// The first token of what is left of a line.
-pub(super) fn first_token<'a>(line: &'a [u8], place: Place) -> Option<Found<'a>>
-    requires { length line.now + place.column ≤ 65537 }
-    ensures { MatchOption result (Ended place line.now) (λ f. Next place line.now (spot f.token) f.place f.rest.now) }
+// The first token of what is left of a line, and what follows it.
+pub(super) fn first_token<'a>(line: Line<'a>) -> Option<(Placed<'a>, Line<'a>)>
+    ensures { FindsToken line.entry result }
 {
-    let n = run_length(line, Class::Blank);
-    let (_, after) = line.split_at(n);
-    let Some(cut) = first_run(after) else {
-        return None;
-    };
-    let Some(token) = token_of(cut.class, cut.run) else {
-        return None;
-    };
-    let column = place.column + n as u32;
-    Some(Found {
-        token: Placed {
-            token,
-            place: Place {
-                line: place.line,
-                column,
-            },
-        },
-        rest: cut.rest,
-        place: Place {
-            line: place.line,
-            column: column + cut.run.len() as u32,
-        },
-    })
+    let mut left = line;
+    let run = left.find(|run| !run.is_blank())?;
+    let token = token_of(run)?;
+    let place = run.place;
+    Some((Placed { token, place }, left))
 }
 
-impl<'a> Reader<'a> {
+impl<'a> Iterator for Reader<'a> {
+    ghost use Rattle.std.specs.Prelude.{length};
+    ghost use Rattle.std.specs.Iterator.{at_most};
+    ghost use Rattle.text.specs.Found.{TakesToken};
+    ghost use Rattle.text.specs.Reading.{state};
+
+    type Item = Placed<'a>;
+
+    ghost next_gives = { λ s r t. TakesToken (state s) (option_map spot r) (state t) };
+
+    ghost remaining = { λ s. at_most (length (state s).left) };
+
     // The next token of the line, or none where the line has no more.
-    pub fn next(&mut self) -> Option<Placed<'a>>
-        ensures value { option_map spot result ≡ first (state self.old).left }
-        ensures after { state self.new ≡ passed (state self.old) }
-    {
-        let Some(found) = first_token(self.line, self.place) else {
-            return None;
-        };
-        self.line = found.rest;
-        self.place = found.place;
-        Some(found.token)
+    fn next(&mut self) -> Option<Placed<'a>> {
+        let (token, line) = first_token(self.line)?;
+        self.line = line;
+        Some(token)
     }
 }

@@ -1,15 +1,13 @@
--- What is left of the line is judged as the whole is.
+-- What is left of the line is judged as the whole is, and each open bracket has taken a byte.
 use Rattle.std.proofs.Common.{◌≡◌, ◌+◌, ◌≤◌, length}
 use Rattle.text.specs.Judging.{judged}
 use Rattle.text.specs.Runs.{runs}
 use Rattle.text.proofs.judge.judge.Given as goal
 
-abbrev pub invariant-loop-cut : goal.invariant-loop-cut
-invariant-loop-cut l =
-    (l.column + length l.rest ≤ 65537)
-    × (l.depth + length l.rest ≤ 65536)
-    × (judged (record { line = l.number; column = l.column }) l.depth (runs l.rest)
-    ≡ judged (record { line = l.number; column = 1 }) 0 (runs l.line))
+abbrev pub invariant-loop-run : goal.invariant-loop-run
+invariant-loop-run l =
+    (l.depth + length l.left.rest.now ≤ 65537)
+    × (judged l.left.place l.depth (runs l.left.rest.now) ≡ judged l.line.place 0 (runs l.line.rest.now))
 
-abbrev pub decreases-loop-cut : goal.decreases-loop-cut
-decreases-loop-cut l = length l.rest
+abbrev pub decreases-loop-run : goal.decreases-loop-run
+decreases-loop-run l = length l.left.rest.now

@@ -5,6 +5,7 @@ use Rattle.text.specs.Reading.{state}
 use Rattle.text.specs.Script.{State, lines}
 use Rattle.text.specs.declared.fault.Fault.{Fault}
 use Rattle.text.proofs.Advancing.{at_end, at_fault, at_tokens, at_none}
+use Rattle.text.proofs.Finding.{found_next, none_left}
 use Rattle.text.proofs.Grammar.{grammar}
 use Rattle.text.proofs.Splitting.{lines_none}
 use Rattle.text.proofs.Tokening.{tokens_none}
@@ -26,14 +27,15 @@ returns-in_err-begin c =
       grammar = grammar;
     }
 
-pub returns-in-Some : goal.returns-in-Some
-returns-in-Some c =
-    let all = sym (at_tokens (state c.loop-self.self) (state c.begin.new.self) _ c.in_ok-begin.ensures.begun refl _ _ c.in-Some.ensures.is) ∙ c.loop-self.invariant.1 in
+pub returns-then-is_some : goal.returns-then-is_some
+returns-then-is_some c =
+    let found = found_next _ _ (sym c.is_some.ensures ∙ c.if-is_some.true) c.first_token.ensures in
+    let all = sym (at_tokens (state c.loop-self.self) (state c.begin.new.self) _ c.in_ok-begin.ensures.begun refl _ _ found.1.is) ∙ c.loop-self.invariant.1 in
     record { value = ap (λ (a : Answer). a.0) all; after = ap (λ (a : Answer). a.1) all; grammar = grammar }
 
 pub loop-self-preserved : goal.loop-self-preserved
 loop-self-preserved c =
-    let none = c.in_default.ensures in (
+    let none = none_left _ _ (sym c.is_some.ensures ∙ c.if-is_some.false) c.first_token.ensures in (
       none,
       at_none (state c.loop-self.self) (state c.begin.new.self) _ c.in_ok-begin.ensures.begun refl none ∙ c.loop-self.invariant.1,
     )

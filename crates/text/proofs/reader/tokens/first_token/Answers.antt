@@ -1,55 +1,32 @@
-use Rattle.std.proofs.Common.{◌≡◌, ℕ, ◌+◌, List, length, drop, Some, None, Option, sym, refl, ap, ◌∙◌, subst, arith}
-use Rattle.std.proofs.lemmas.List.{length-drop}
-use Rattle.text.specs.Faults.{along}
-use Rattle.text.specs.Runs.{run_length, runs, CutOff}
-use Rattle.text.specs.Tokens.{Symbol, Spot, symbol, symbol_of, onto, tokens}
-use Rattle.text.specs.declared.alphabet.Class.TheVariants.{Blank}
-use Rattle.text.proofs.Cutting.{run_within}
-use Rattle.text.proofs.Judged.{cut_length}
-use Rattle.text.proofs.Tokening.{tokens_after, no_more}
+use Rattle.std.proofs.Common.{rules, sym, ap, ◌∙◌}
+use Rattle.text.specs.Found.{tokens_left}
+use Rattle.text.specs.Tokens.{onto}
+use Rattle.text.proofs.Finding.{blanks_taken, not_blank, token_taken}
+use Rattle.text.proofs.Tokening.{tokens_none}
 use Rattle.text.proofs.reader.tokens.first_token.Goals as goal
-use Rattle.text.proofs.reader.tokens.first_token.Goals.{In-Some}
 
-cut : (c : In-Some) → CutOff (drop (run_length Blank c.args.line.now) c.args.line.now) c.in-Some.cut.class c.in-Some.cut.run.now c.in-Some.cut.rest.now
-cut c = subst (λ bs. CutOff bs c.in-Some.cut.class c.in-Some.cut.run.now c.in-Some.cut.rest.now) (c.split_at.ensures.back ∙ ap (λ n. drop n c.args.line.now) c.run_length-n.ensures) c.in-Some.ensures
+pub returns-in_err-run : goal.returns-in_err-run
+returns-in_err-run c =
+    let h = c.in_err-run.ensures.ran in
+    let kept = blanks_taken _ h.0 h.1 _ h.2.0 h.2.1 h.3 (λ x b q k. search rules) in
+    rw c.from_residual.ensures (kept.0 ∙ tokens_none _ _ h.2.2.0)
 
-fits : (c : In-Some) → c.run_length-n.result + (length c.in-Some.cut.run.now + length c.in-Some.cut.rest.now) ≡ length c.args.line.now
-fits c =
-    let line = c.args.line.now in
-    let w = run_within Blank line in
-    let e = c.run_length-n.ensures in
-    let long = cut_length c.args.place 0 _ _ _ _ (cut c) in
-    let part = length-drop (run_length Blank line) line in
-    omega arith
-
-pub split_at-requires : goal.split_at-requires
-split_at-requires c = let w = run_within Blank c.args.line.now in let e = c.run_length-n.ensures in omega arith
-
-pub returns-in_default : goal.returns-in_default
-returns-in_default c = no_more c.args.place c.args.line.now (sym (c.split_at.ensures.back ∙ ap (λ n. drop n c.args.line.now) c.run_length-n.ensures) ∙ c.in_default.ensures)
-
--- the tokens left are those of the first run after the blanks, and what follows it
-goes : (c : In-Some) (o : Option Symbol) → o ≡ symbol_of c.in-Some.cut.class c.in-Some.cut.run.now → tokens c.args.place (runs c.args.line.now) ≡ onto (along c.args.place c.run_length-n.result) o (tokens (along (along c.args.place c.run_length-n.result) (length c.in-Some.cut.run.now)) (runs c.in-Some.cut.rest.now))
-goes c o e =
-    let p = c.args.place in
-    let next : ℕ → List Spot = λ n. tokens (along (along p n) (length c.in-Some.cut.run.now)) (runs c.in-Some.cut.rest.now) in
-    tokens_after p c.args.line.now _ _ _ (cut c) ∙ (λ i. onto (along p (sym c.run_length-n.ensures i)) (sym e i) (next (sym c.run_length-n.ensures i)))
-
-pub returns-in_default-token_of : goal.returns-in_default-token_of
-returns-in_default-token_of c = goes (goal.at.returns-in_default-token_of c).In-Some None c.in_default-token_of.ensures
-
-pub overflow_cast-result : goal.overflow_cast-result
-overflow_cast-result c = let pre = c.requires in let f = fits (goal.at.overflow_cast-result c).In-Some in omega arith
-
-pub overflow_add-result : goal.overflow_add-result
-overflow_add-result c = let pre = c.requires in let f = fits (goal.at.overflow_add-result c).In-Some in omega arith
+pub returns-in_err-token : goal.returns-in_err-token
+returns-in_err-token c =
+    let h = c.in_ok-run.ensures.ran in
+    let run = c.in_ok-run.run' in
+    let kept = blanks_taken _ h.0 h.1 _ h.2.0 h.2.1 h.3 (λ x b q k. search rules) in
+    let n = not_blank _ run h.1 h.4.0 kept.2 h.4.1 (λ x b q k. search rules) in
+    rw c.from_residual-in_err-token.ensures
+    (kept.0 ∙ token_taken h.2.0 _ run h.2.2 n ∙ ap (λ o. onto run.place o (tokens_left c.find.new.self)) (sym c.in_err-token.ensures))
 
 pub returns : goal.returns
 returns c =
-    let s = (goal.at.returns c).In-Some in
-    let f = fits s in
+    let h = c.in_ok-run.ensures.ran in
+    let run = c.in_ok-run.run' in
+    let kept = blanks_taken _ h.0 h.1 _ h.2.0 h.2.1 h.3 (λ x b q k. search rules) in
+    let n = not_blank _ run h.1 h.4.0 kept.2 h.4.1 (λ x b q k. search rules) in
     record {
-      is = goes s (Some (symbol c.in-Some-token_of.token)) c.in-Some-token_of.ensures;
-      line = refl;
-      within = omega arith;
+      is = kept.0 ∙ token_taken h.2.0 _ run h.2.2 n ∙ ap (λ o. onto run.place o (tokens_left c.find.new.self)) (sym c.in_ok-token.ensures);
+      line = ap (λ p. p.line) h.2.2.place ∙ kept.1;
     }
