@@ -53,14 +53,19 @@ pub record Query : Type 0 where
 abbrev pub asked : Query → Range
 asked q = record { low = q.low; high = q.high }
 
+-- the first fault of a range's ends, of a log of so many slots
+abbrev pub ends_fault : (slots low high : ℕ) → Option Fault
+ends_fault slots low high =
+    cond (nat_lt slots high) (Some Fault.Beyond) (
+    cond (nat_le high low) (Some Fault.Backward) None)
+
 -- the first fault of a range and the tables that come with it
 abbrev pub range_fault : (slots distances steps low high : ℕ) → Option Fault
 range_fault slots distances steps low high =
     cond (nat_lt 1023 slots) (Some Fault.LongLog) (
     cond (nat_lt distances 1024) (Some Fault.FewDistances) (
     cond (nat_lt steps 1023) (Some Fault.FewSteps) (
-    cond (nat_lt slots high) (Some Fault.Beyond) (
-    cond (nat_le high low) (Some Fault.Backward) None))))
+    ends_fault slots low high)))
 
 -- the first fault that a query meets, of a log of n slots: a full ledger's before all others
 abbrev pub fault : {V : Type 0} → Ledger V → ℕ → Query → Option Fault
@@ -125,8 +130,7 @@ try_range t = record { low = t.low; high = t.high }
 abbrev pub try_fault : Try → Option Fault
 try_fault t =
     cond (nat_lt 1023 t.slots) (Some Fault.LongLog) (
-    cond (nat_lt t.slots t.high) (Some Fault.Beyond) (
-    cond (nat_le t.high t.low) (Some Fault.Backward) None))
+    ends_fault t.slots t.low t.high)
 
 -- What a try answers, judged by the joined ranges and those found free before it, and the ranges that the next try is judged by.
 pub data Tried (js : List Range) (t : Try) : Trial → List Range → Type 0 where

@@ -1,6 +1,8 @@
 // The sums of a ledger's joining releases, over a lent table of values.
 ghost use Rattle.std.specs.Prelude.{◌≡◌};
 
+mod answering;
+
 use distances::Distances;
 use kinds::Kind;
 

@@ -1,6 +1,6 @@
 // What a ledger answers: to a query, to a try of a rehearsal, and in counts.
-ghost use Rattle.std.specs.Prelude.{◌≡◌, slice_index};
-ghost use Rattle.ledger.specs.Answers.{number, told, told_trial};
+ghost use Rattle.std.specs.Prelude.{◌≡◌, ◌<◌, slice_index, ◌≢◌};
+ghost use Rattle.ledger.specs.Answers.{number, told, told_trial, counted, count};
 
 use links::Range;
 
@@ -81,10 +81,37 @@ impl Trial {
 }
 
 // How many queries were released, withheld, lost and malformed.
-#[derive(Clone, Copy, Debug, PartialEq, Eq)]
+#[derive(Clone, Copy, Debug, Default, PartialEq, Eq)]
 pub struct Counts {
     pub released: u16,
     pub withheld: u16,
     pub lost: u16,
     pub malformed: u16,
+}
+
+impl Counts {
+    // One more of what the answer is.
+    pub(crate) fn add<K>(self, answer: &Answer<K>) -> Counts
+        requires { counted self < 65535 }
+        ensures { (answer.now ≢ Answer.Refused Fault.Full) → result ≡ count answer.now self }
+    {
+        let mut counts = self;
+        match answer {
+            Answer::Released(_) => counts.released += 1,
+            Answer::Withheld(_, _) => counts.withheld += 1,
+            Answer::LostSlot(_) => counts.lost += 1,
+            Answer::Refused(_) => counts.malformed += 1,
+        }
+        counts
+    }
+
+    // How many queries were counted.
+    pub fn total(self) -> u32
+        ensures { result ≡ counted self }
+    {
+        u32::from(self.released)
+            + u32::from(self.withheld)
+            + u32::from(self.lost)
+            + u32::from(self.malformed)
+    }
 }

@@ -3,6 +3,7 @@
 
 mod amounts;
 mod answer;
+mod ends;
 mod ledger;
 mod token;
 mod told;
@@ -12,5 +13,4 @@ pub use amounts::Amounts;
 pub use answer::{Answer, Counts, Fault, Trial};
 pub use ledger::{Ledger, open};
 pub use token::NewLog;
-pub use told::Told;
 pub use trying::Try;

@@ -32,15 +32,9 @@ impl Ledger {
         ensures joined { joined result.links ≡ [] }
         ensures counts { result.counts ≡ record { released = 0; withheld = 0; lost = 0; malformed = 0 } }
     {
-        let counts = Counts {
-            released: 0,
-            withheld: 0,
-            lost: 0,
-            malformed: 0,
-        };
         Ledger {
             links: Links::new(),
-            counts,
+            counts: Counts::default(),
             log,
         }
     }

@@ -7,35 +7,12 @@ ghost use Rattle.ledger.specs.Truth.{OneRehearsal};
 ghost use Rattle.ledger.specs.Tries.{try_of};
 
 use super::Ledger;
-use crate::answer::{Fault, Trial};
+use crate::answer::Trial;
+use crate::ends::ends_tried;
 use crate::trying::Try;
 use judgement::{Finding, judge};
-use links::{Boundary, Provisional};
+use links::Provisional;
 use rules::Rule;
-
-// The ends of a try that meets no fault, or its first fault.
-fn ends<R: Rule>(range: &Try<R>) -> Result<(Boundary, Boundary), Fault>
-    ensures fault { MatchResult result (λ _. try_fault (try_of R.Rule.protects R.Rule.ordered range.now) ≡ None) (λ fault. try_fault (try_of R.Rule.protects R.Rule.ordered range.now) ≡ Some fault) }
-    ensures ends { IfOk result (λ ends. (ends.0.index ≡ range.now.low) × (ends.1.index ≡ range.now.high)) }
-    ensures ordered { OnOk result (range.now.low < range.now.high) }
-{
-    if range.slots > 1023 {
-        return Err(Fault::LongLog);
-    }
-    if range.high as usize > range.slots {
-        return Err(Fault::Beyond);
-    }
-    if range.low >= range.high {
-        return Err(Fault::Backward);
-    }
-    let Some(low) = Boundary::new(range.low) else {
-        return Err(Fault::Beyond);
-    };
-    let Some(high) = Boundary::new(range.high) else {
-        return Err(Fault::Beyond);
-    };
-    Ok((low, high))
-}
 
 // What a try answers; one that is free joins until the rehearsal ends.
 fn attempt<R: Rule>(links: &mut Provisional<'_>, range: &Try<R>) -> Trial
@@ -43,15 +20,15 @@ fn attempt<R: Rule>(links: &mut Provisional<'_>, range: &Try<R>) -> Trial
     ensures stays { links.new.links.ghost_name ≡ links.old.links.ghost_name }
     ensures saved { links.new.saved ≡ links.old.saved }
 {
-    let (low, high) = match ends(range) {
+    let ends = match ends_tried(range) {
         Ok(ends) => ends,
         Err(fault) => return Trial::Refused(fault),
     };
-    match judge(links.links(), &range.rule, low, high) {
+    match judge(links.links(), &range.rule, ends.low, ends.high) {
         Finding::Linked => Trial::Free,
         Finding::Withheld(pair) => Trial::Withheld(pair),
         Finding::Free => {
-            let _ = links.join(low, high);
+            let _ = links.join(ends.low, ends.high);
             Trial::Free
         }
     }

@@ -2,18 +2,17 @@ use Rattle.std.proofs.Common.{◌∙◌, inr, arith}
 use Rattle.stores.specs.Log.{meant}
 use Rattle.stores.specs.Sums.{range_sum}
 use Rattle.ledger.proofs.Releases.{laid_by}
-use Rattle.ledger.proofs.ledger.query.release.Goals as goal
+use Rattle.ledger.proofs.amounts.Amounts.release.Goals as goal
 
 pub returns-in-Sum : goal.returns-in-Sum
 returns-in-Sum g c =
     let found = c.in-Sum.ensures in
-    let laid = laid_by g.K.Kind.group g.K.Kind.meaning c.args.links.now c.join.new.links c.args.distances.now.table.now c.join.new.self.table.now c.args.a.index c.args.b.index c.join.result (g.K.Kind.meaning c.in-Sum.value) c.join.ensures.cases c.requires.room c.requires.range c.requires.apart in
+    let laid = laid_by g.K.Kind.group g.K.Kind.meaning c.args.links.now c.join.new.links c.args.self.now.distances.table.now c.join.new.self.table.now c.args.ends.low.index c.args.ends.high.index c.join.result (g.K.Kind.meaning c.in-Sum.value) c.join.ensures.cases c.requires.room c.requires.range c.requires.apart in
     let low = c.index.ensures.value in
     let high = c.index-2.ensures.value in
     let log = meant g.K.Kind.meaning (g.S.Store.log c.args.store.now) in
     record {
       freed = (λ i from to. found.1 i (omega arith) (omega arith), found.2 ∙ (λ i. range_sum g.K.Kind.group log.reading (low i) (high i)), laid.0);
       others = inr laid.1;
-      long = laid.2;
       stays = c.join.ensures.stays;
     }
