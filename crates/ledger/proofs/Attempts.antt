@@ -1,5 +1,5 @@
 -- What a judgement says of a try, as the machine has it. Assumes nothing.
-use Rattle.std.proofs.Common.{◌≡◌, ℕ, ◌+◌, ◌<◌, ◌≤◌, false, List, [], ◌∷◌, ◌++◌, map, length, get_or, take, drop, set, Some, None, Option, sym, ap, ◌∙◌, subst, ⊎_elim, arith, drop-drop, drop-set-lt, MatchOption}
+use Rattle.std.proofs.Common.{◌≡◌, ℕ, ◌+◌, ◌<◌, ◌≤◌, false, List, [], ◌∷◌, ◌++◌, map, length, get_or, take, drop, set, Some, None, Option, sym, ap, ◌∙◌, subst, ⊎_elim, arith, drop-drop, drop-set-lt, take_all, MatchOption}
 use mathlib.Core.List.{map-append}
 use mathlib.Core.HLevel.{is_prop→PathP}
 use native.Mathlib.Bridge.{le_prop}
@@ -68,6 +68,13 @@ reaches_next {R} f {js} {ks} {ms} ts xs i t x here there is r a =
     sym (ap (map f) (take_more ts i t here) ∙ map-append f (take i ts) (get_or ts i t ∷ []) ∙ ap (λ (y : R). map f (take i ts) ++ (f y ∷ [])) (sym is)) in
     subst (λ (us : List Try). Reaches js us (take (i + 1) (set xs i x)) ms) tries
     (subst (λ (ys : List Trial). Reaches js (map f (take i ts) ++ (f t ∷ [])) ys ms) (sym (take_more_set xs i x there)) (reaches_more r a))
+
+-- the first n tries of a list are all of its first n
+pub all_reached : {R : Type 0} (f : R → Try) {js ks : List Range} (ts : List R) (xs : List Trial) (n i : ℕ) → length (take n ts) ≤ i → i ≡ n →
+    Reaches js (map f (take i (take n ts))) (take i xs) ks → Reaches js (map f (take n ts)) (take n xs) ks
+all_reached {R} f {js} {ks} ts xs n i whole end r =
+    subst (λ (us : List R). Reaches js (map f us) (take n xs) ks) (take_all i (take n ts) whole)
+    (subst (λ (m : ℕ). Reaches js (map f (take i (take n ts))) (take m xs) ks) end r)
 
 -- what lies past a place stays when that place is set
 pub drop_past : {X : Type 0} (xs ys : List X) (i : ℕ) (x : X) → drop i xs ≡ drop i ys → drop (i + 1) (set xs i x) ≡ drop (i + 1) ys

@@ -37,7 +37,7 @@ impl Fault {
 }
 
 // A query's answer: the sum, the pair that it would give away with the length of its chain, the lowest lost slot, or a fault.
-#[derive(Clone, Copy)]
+#[derive(Clone, Copy, Debug, PartialEq, Eq)]
 pub enum Answer<V> {
     Released(V),
     Withheld(Range, usize),
@@ -60,7 +60,7 @@ impl<V> Answer<V> {
 }
 
 // A try's answer.
-#[derive(Clone, Copy)]
+#[derive(Clone, Copy, Debug, PartialEq, Eq)]
 pub enum Trial {
     Free,
     Withheld(Range),

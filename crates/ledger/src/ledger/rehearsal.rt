@@ -47,13 +47,9 @@ impl Ledger {
         ensures acyclic { Acyclic (joined self.old.links) }
     {
         let mut links = Provisional::over(&mut self.links);
-        let mut made = 0;
-        for range in tries {
-            if made >= trials.len() {
-                return made;
-            }
-            trials[made] = attempt(&mut links, range);
-            made += 1;
+        let made = tries.len().min(trials.len());
+        for (i, range) in tries[..made].iter().enumerate() {
+            trials[i] = attempt(&mut links, range);
         }
         made
     }

@@ -1,52 +1,49 @@
-use Rattle.std.proofs.Common.{◌≡◌, ℕ, ◌+◌, ◌<◌, min, length, get_or, sym, refl, ap, ◌∙◌, subst, arith}
+use Rattle.std.proofs.Common.{◌≡◌, ℕ, ◌<◌, ◌≤◌, List, length, take, drop, refl, ap, ◌∙◌, subst, arith}
+use Rattle.std.proofs.lemmas.List.{length-take-le}
 use Rattle.links.proofs.Chained.{acyclic}
 use Rattle.ledger.specs.Tries.{try_of}
-use Rattle.ledger.proofs.Attempts.{Reaches, reaches_next, rehearsed_from, drop_past, ledger_same}
+use Rattle.ledger.proofs.Attempts.{Reaches, reaches_next, all_reached, rehearsed_from, drop_past, ledger_same}
 use Rattle.ledger.proofs.Outcomes.{one_rehearsal}
 use Rattle.ledger.proofs.ledger.Ledger.rehearse.Goals as goal
 
-pub loop-range-init : goal.loop-range-init
-loop-range-init g c = (refl, omega arith, Reaches.none, refl, refl, refl)
+-- a loop over the first n of a list ends at n
+made_all : {X : Type 0} (n i : ℕ) (xs : List X) → n ≤ length xs → length (take n xs) ≤ i → i ≤ length (take n xs) → i ≡ n
+made_all n i xs within past until = let long = length-take-le n xs within in omega arith
 
-pub returns-then-made-trials : goal.returns-then-made-trials
-returns-then-made-trials g c =
-    let inv = c.loop-range.invariant in
-    let kept = c.loop-range.auto.trials in
-    let first = c.over-links.ensures in
-    record {
-      many = let e : c.loop-range.made ≡ c.loop-range.range-index = inv.0 in let h = inv.1 in let m : c.loop-range.made ≡ min (length c.args.tries.now) (length c.args.trials.now) = omega arith in m;
-      tried = rehearsed_from c.over-links.result.links.now c.args.self.now.links first.same inv.2;
-      rest = inv.3;
-      same = ledger_same _ _ (c.drop-links.ensures ∙ (inv.4 ∙ first.saved)) refl refl;
-      exact = one_rehearsal;
-      acyclic = acyclic c.args.self.now.links;
-    }
+pub loop-i-init : goal.loop-i-init
+loop-i-init g c = (Reaches.none, refl, refl, refl)
 
-pub loop-range-preserved : goal.loop-range-preserved
-loop-range-preserved g c =
-    let inv = c.loop-range.invariant in
-    let at : c.loop-range.made ≡ c.loop-range.range-index = inv.0 in
-    let here : c.loop-range.made < length c.args.tries.now = omega arith in
-    let item = subst (λ (i : ℕ). c.range-item.result ≡ get_or c.args.tries.now i c.range-item.result) (sym at) c.range-item.is in (
-      ap (λ (i : ℕ). i + 1) at,
-      (let kept = c.loop-range.auto.trials in omega arith),
-      reaches_next (try_of g.R.Rule.protects g.R.Rule.ordered) c.args.tries.now c.loop-range.trials c.loop-range.made c.range-item.result c.attempt.result here c.if-made-trials.false item inv.2 c.attempt.ensures.tried,
-      drop_past c.loop-range.trials c.args.trials.now c.loop-range.made c.attempt.result inv.3,
-      c.attempt.ensures.saved ∙ inv.4,
-      c.attempt.ensures.stays ∙ inv.5,
+pub loop-i-preserved : goal.loop-i-preserved
+loop-i-preserved g c =
+    let inv = c.loop-i.invariant in
+    let kept = c.loop-i.auto.trials in
+    let many = c.min-made.ensures in
+    let long = length-take-le c.min-made.result c.args.tries.now (omega arith) in
+    let here : c.loop-i.i < length c.loop-i.trials = omega (arith, c.loop-i-test.true) in (
+      reaches_next (try_of g.R.Rule.protects g.R.Rule.ordered) (take c.min-made.result c.args.tries.now) c.loop-i.trials c.loop-i.i c.range-item.result c.attempt.result c.loop-i-test.true here c.range-item.is inv.0 c.attempt.ensures.tried,
+      drop_past c.loop-i.trials c.args.trials.now c.loop-i.i c.attempt.result inv.1,
+      c.attempt.ensures.saved ∙ inv.2,
+      c.attempt.ensures.stays ∙ inv.3,
     )
 
-pub returns : goal.returns
-returns g c =
-    let inv = c.loop-range.invariant in
-    let kept = c.loop-range.auto.trials in
-    let end = c.loop-range.auto.range-index-end in
+pub returns-clause-tried : goal.returns-clause-tried
+returns-clause-tried g c =
+    let end = made_all c.min-made.result c.loop-i.i c.args.tries.now (omega (arith, c.min-made.ensures)) c.loop-i-test.false c.loop-i.auto.i-end in
+    rehearsed_from c.over-links.result.links.now c.args.self.now.links c.over-links.ensures.same
+    (all_reached _ c.args.tries.now c.loop-i.trials c.min-made.result c.loop-i.i c.loop-i-test.false end c.loop-i.invariant.0)
+
+pub returns-clause-rest : goal.returns-clause-rest
+returns-clause-rest g c =
+    subst (λ (n : ℕ). drop n c.loop-i.trials ≡ drop n c.args.trials.now) (made_all c.min-made.result c.loop-i.i c.args.tries.now (omega (arith, c.min-made.ensures)) c.loop-i-test.false c.loop-i.auto.i-end) c.loop-i.invariant.1
+
+pub returns-clause-same : goal.returns-clause-same
+returns-clause-same g c =
+    let inv = c.loop-i.invariant in
     let first = c.over-links.ensures in
-    record {
-      many = let e : c.loop-range.made ≡ c.loop-range.range-index = inv.0 in let h = inv.1 in let m : c.loop-range.made ≡ min (length c.args.tries.now) (length c.args.trials.now) = omega arith in m;
-      tried = rehearsed_from c.over-links.result.links.now c.args.self.now.links first.same inv.2;
-      rest = inv.3;
-      same = ledger_same _ _ (c.drop-links-2.ensures ∙ (inv.4 ∙ first.saved)) refl refl;
-      exact = one_rehearsal;
-      acyclic = acyclic c.args.self.now.links;
-    }
+    ledger_same _ _ (c.drop-links.ensures ∙ (inv.2 ∙ first.saved)) refl refl
+
+pub returns-clause-exact : goal.returns-clause-exact
+returns-clause-exact g c = one_rehearsal
+
+pub returns-clause-acyclic : goal.returns-clause-acyclic
+returns-clause-acyclic g c = acyclic c.args.self.now.links
