@@ -84,15 +84,16 @@ module _ (rows : List Row) (k m x y at : ℕ) (s : Sound rows k) (within : m ≤
   cut_by true c = cut_forth c
   cut_by false c = cut_back c
 
-  -- the same, of values that are known to be the join's number, its step, and where that starts and ends
-  pub cut : (forth : Bool) (t near far : ℕ) (o v : Step) → MakesOne rows k x y at forth → t ≡ number_at rows at
-      → o ≡ step_by (row_at rows at).edge → v ≡ cond forth o (back o) → near ≡ start v → far ≡ end v → Cut rows m x y t near far v
-  cut forth t near far o v newest t-is o_is v-is near-is far-is =
+  -- the same, of values that are known to be the join's number, its step by the way it goes, and where that starts and ends
+  pub cut : (forth : Bool) (t i j : ℕ) (o v w : Step) → MakesOne rows k x y at forth → t ≡ number_at rows at
+      → o ≡ step_by (row_at rows at).edge → v ≡ cond forth o (back o) → w ≡ v → i ≡ start v → j ≡ end v → Cut rows m x y t i j w
+  cut forth t i j o v w newest t-is o_is v-is w-is i_is j_is =
       let step : crossing rows at forth ≡ v = sym (v-is ∙ ap (λ (o : Step). cond forth o (back o)) o_is) in
-      subst (λ a. Cut rows m x y t a far v) (sym near-is)
-      (subst (λ b. Cut rows m x y t (start v) b v) (sym far-is)
+      subst (λ (w : Step). Cut rows m x y t i j w) (sym w-is)
+      (subst (λ a. Cut rows m x y t a j v) (sym i_is)
+      (subst (λ b. Cut rows m x y t (start v) b v) (sym j_is)
       (subst (λ t. Cut rows m x y t (start v) (end v) v) (sym t-is)
-      (subst (λ (v : Step). Cut rows m x y (number_at rows at) (start v) (end v) v) step (cut_by forth newest))))
+      (subst (λ (v : Step). Cut rows m x y (number_at rows at) (start v) (end v) v) step (cut_by forth newest)))))
 
 -- the lengths of the parts
 pub cut_length : (rows : List Row) (m x y t near far : ℕ) (s : Step) → Cut rows m x y t near far s

@@ -9,7 +9,6 @@ pub mod Sets
 pub mod Ways
 mod Putting
 pub mod Sound
-mod Opening
 pub mod Invariant
 mod Tables
 mod Joining

@@ -39,8 +39,19 @@ module _ (rows : List Row) (k : ℕ) (s : Sound rows k) where
       ap (λ (r : Row). number_by r.edge)
       (get_or_past rows i _ (let l = s.long in let z : length rows ≤ i = omega arith in z))
 
-module _ (rows : List Row) (long : length rows ≡ 1024) (free : (i : ℕ) → (row_at rows i).edge ≡ None)
-    (ones : (i : ℕ) → i < 1024 → (row_at rows i).size ≡ 1) (own : (i : ℕ) → i < 1024 → (row_at rows i).parent ≡ i) where
+-- rows that are each of a boundary by itself
+module _ (rows : List Row) (long : length rows ≡ 1024)
+    (each : (i : ℕ) → i < 1024 → row_at rows i ≡ record { parent = i; size = 1; edge = None }) where
+  free : (i : ℕ) → (row_at rows i).edge ≡ None
+  free i =
+      ⊎_elim
+      (λ (h : i < 1024). ap (λ (r : Row). r.edge) (each i h))
+      (λ (h : 1024 ≤ i). ap (λ (r : Row). r.edge) (get_or_past rows i _ (let z : length rows ≤ i = omega arith in z)))
+      (cases_lt i 1024)
+
+  own : (i : ℕ) → i < 1024 → parent_at rows i ≡ i
+  own i h = ap (λ (r : Row). r.parent) (each i h)
+
   pub sound_open : Sound rows 0
   sound_open =
       record {
@@ -65,5 +76,5 @@ module _ (rows : List Row) (long : length rows ≡ 1024) (free : (i : ℕ) → (
         far = λ t h. absurd (omega arith);
         ordered = λ t h. absurd (omega arith);
         ended = λ t h. absurd (omega arith);
-        sized = λ i l h. ones i l ∙ sym (members_one (hung rows) (over rows) 1024 i l);
+        sized = λ i l h. ap (λ (r : Row). r.size) (each i l) ∙ sym (members_one (hung rows) (over rows) 1024 i l);
       }

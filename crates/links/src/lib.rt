@@ -9,7 +9,7 @@ mod step;
 #[cfg(test)]
 mod tests;
 
-pub use boundary::Boundary;
+pub use boundary::{BOUNDARIES, Boundary, NoBoundary};
 pub use links::{Hung, Links};
 pub use provisional::Provisional;
 pub use step::{Origin, Range, Sign, Step};

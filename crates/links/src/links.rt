@@ -9,12 +9,13 @@ mod leaders;
 mod open;
 mod table;
 
+use crate::boundary::BOUNDARIES;
 use crate::row::Row;
 pub use join::Hung;
 
 // Which boundaries are linked, and by which ranges. Links can't be copied, and are taken apart by `close` alone.
 pub struct Links {
-    rows: [Row; 1024],
+    rows: [Row; BOUNDARIES],
     joins: u16,
     // each boundary has a row, and its parent is a boundary
     ghost long: { length rows ≡ 1024 },

@@ -1,7 +1,7 @@
 // One row of the forest: the boundary above, the set's size, and the range that hung the row.
 ghost use Rattle.std.specs.Prelude.{◌≡◌, ◌+◌, ◌^◌, ◌<◌, Some};
 
-use crate::step::Sign;
+use crate::step::{Origin, Sign, Step};
 
 // The range of a join, as the row that it hung keeps it: `sign` is that of the step over the range which leaves the row's own set, and
 // `number` says how many joins came before.
@@ -19,6 +19,22 @@ pub struct Row {
     pub parent: u16,
     pub size: u16,
     pub edge: Option<Edge>,
+}
+
+// The step over an edge's range that leaves the row's own set.
+impl From<Edge> for Step {
+    ghost use Rattle.links.specs.Rows.{step_by};
+
+    ghost from_gives = { λ edge step. step ≡ step_by (Some edge) };
+
+    fn from(edge: Edge) -> Step {
+        Step {
+            low: edge.low,
+            high: edge.high,
+            sign: edge.sign,
+            origin: Origin::Released,
+        }
+    }
 }
 
 impl Row {

@@ -1,5 +1,5 @@
 // Joins, leaders and chains on examples.
-use crate::boundary::Boundary;
+use crate::boundary::{Boundary, NoBoundary};
 use crate::links::{Hung, Links};
 use crate::step::{Origin, Sign, Step};
 
@@ -12,24 +12,15 @@ const BLANK: Step = Step {
 
 // The numbers of the hung leader and of the one above it.
 fn pair(hung: Option<Hung>) -> Option<(u16, u16)> {
-    match hung {
-        Some(h) => Some((h.leader.index(), h.under.index())),
-        None => None,
-    }
+    hung.map(|h| (h.leader.index(), h.under.index()))
 }
 
 #[test]
 fn boundaries_are_below_1024(rt: HostRuntime) {
-    let last = match Boundary::new(1023) {
-        Some(b) => b.index(),
-        None => 0,
-    };
-    let past = match Boundary::new(1024) {
-        Some(_) => true,
-        None => false,
-    };
-    assert_eq!(rt; last, 1023);
-    assert!(rt; !past);
+    assert_eq!(rt; Boundary::new(1023).map(Boundary::index), Some(1023));
+    assert_eq!(rt; Boundary::new(1024), None);
+    assert_eq!(rt; Boundary::try_from(1023).map(Boundary::index), Ok(1023));
+    assert_eq!(rt; Boundary::try_from(1024), Err(NoBoundary));
 }
 
 #[test]

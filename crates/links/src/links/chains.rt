@@ -1,22 +1,21 @@
 // The chain between two linked boundaries, found from the newest join on the way.
 ghost use Rattle.std.specs.Prelude.{◌≡◌, ◌+◌, ◌<◌, ◌≤◌, length, if◌then◌else◌, MatchOption, ◌≢◌};
 ghost use Rattle.links.specs.Chains.{start, end};
-ghost use Rattle.links.specs.Forest.{back};
 ghost use Rattle.links.specs.Rows.{row_at, step_by, leader_at, way_at};
-ghost use Rattle.links.specs.Newest.{MakesOne, Cut};
+ghost use Rattle.links.specs.Newest.{IsNewest, Cut};
 ghost use Rattle.links.specs.Rings.{Acyclic};
 ghost use Rattle.links.specs.Written.{put, Written, Unwritten};
 ghost use Rattle.links.specs.Joined.{joined, leader_of};
 
 use super::Links;
 use crate::boundary::Boundary;
-use crate::step::{Origin, Sign, Step};
+use crate::step::Step;
 
-// The row that a join hung, and whether a walk over the join's range leaves the hung set, or enters it.
+// The row that a join hung, by which way a walk goes over the join's range: it leaves the hung set, or enters it.
 #[derive(Clone, Copy)]
-struct Newest {
-    at: Boundary,
-    forth: bool,
+enum Newest {
+    Leaves(Boundary),
+    Enters(Boundary),
 }
 
 // A step over a joined range, from `near` to `far`, and how many joins are older.
@@ -28,29 +27,44 @@ struct Crossing {
     far: Boundary,
 }
 
+impl Crossing {
+    fn over(step: Step, older: u16) -> Crossing
+        requires near { start step < 1024 }
+        requires far { end step < 1024 }
+        ensures older { result.older ≡ older }
+        ensures step { result.step ≡ step }
+        ensures near { result.near.index ≡ start step }
+        ensures far { result.far.index ≡ end step }
+    {
+        Crossing {
+            older,
+            step,
+            near: Boundary::at(step.start()),
+            far: Boundary::at(step.end()),
+        }
+    }
+}
+
 impl Links {
     // The newest join that the way from `x` to `y` goes over: of the two climbs, the lower join number goes first, until they meet.
     fn newest(&self, x: Boundary, y: Boundary) -> Newest
         requires apart { x.index ≢ y.index }
         requires one { leader_of self.now x.index ≡ leader_of self.now y.index }
-        ensures { MakesOne self.now.rows self.now.joins x.index y.index result.at.index result.forth }
+        ensures { IsNewest self.now.rows self.now.joins x.index y.index result }
     {
         let mut p = x;
         let mut q = y;
         loop {
             if self.number(p) < self.number(q) {
                 let up = self.parent(p);
-                if up.index() == q.index() {
-                    return Newest { at: p, forth: true };
+                if up == q {
+                    return Newest::Leaves(p);
                 }
                 p = up;
             } else {
                 let up = self.parent(q);
-                if up.index() == p.index() {
-                    return Newest {
-                        at: q,
-                        forth: false,
-                    };
+                if up == p {
+                    return Newest::Enters(q);
                 }
                 q = up;
             }
@@ -61,16 +75,7 @@ impl Links {
     fn out(&self, b: Boundary) -> Step
         ensures { result ≡ step_by (row_at self.now.rows b.index).edge }
     {
-        let (low, high, sign) = match self.row(b).edge {
-            Some(edge) => (edge.low, edge.high, edge.sign),
-            None => (0, 0, Sign::Plus),
-        };
-        Step {
-            low,
-            high,
-            sign,
-            origin: Origin::Released,
-        }
+        self.row(b).edge.map_or(Step::default(), Step::from)
     }
 
     // The step over the newest join on the way from `x` to `y` over the first `below` joins.
@@ -80,13 +85,9 @@ impl Links {
         requires one { leader_at self.now.rows below x.index ≡ leader_at self.now.rows below y.index }
         ensures { Cut self.now.rows below x.index y.index result.older result.near.index result.far.index result.step }
     {
-        let join = self.newest(x, y);
-        let step = directed(self.out(join.at), join.forth);
-        Crossing {
-            older: self.number(join.at),
-            step,
-            near: Boundary::at(starts(step)),
-            far: Boundary::at(ends(step)),
+        match self.newest(x, y) {
+            Newest::Leaves(at) => Crossing::over(self.out(at), self.number(at)),
+            Newest::Enters(at) => Crossing::over(self.out(at).reversed(), self.number(at)),
         }
     }
 
@@ -99,7 +100,7 @@ impl Links {
         ensures value { result ≡ from + length (way_at self.now.rows below x.index y.index) }
         ensures after { table.new ≡ put table.old from (way_at self.now.rows below x.index y.index) }
     {
-        if x.index() == y.index() {
+        if x == y {
             return from;
         }
         let join = self.crossing(x, y, below);
@@ -120,44 +121,6 @@ impl Links {
         if !self.linked(from, to) {
             return None;
         }
-        let joins = self.joins;
-        Some(self.fill(from, to, joins, table, 0))
-    }
-}
-
-// The step itself, or the same step the other way.
-fn directed(step: Step, forth: bool) -> Step
-    ensures { result ≡ (if forth then step else back step) }
-{
-    let sign = match (forth, step.sign) {
-        (true, sign) => sign,
-        (false, Sign::Plus) => Sign::Minus,
-        (false, Sign::Minus) => Sign::Plus,
-    };
-    Step {
-        low: step.low,
-        high: step.high,
-        sign,
-        origin: step.origin,
-    }
-}
-
-// The boundary that a step leaves.
-fn starts(step: Step) -> u16
-    ensures { result ≡ start step }
-{
-    match step.sign {
-        Sign::Plus => step.low,
-        Sign::Minus => step.high,
-    }
-}
-
-// The boundary that a step comes to.
-fn ends(step: Step) -> u16
-    ensures { result ≡ end step }
-{
-    match step.sign {
-        Sign::Plus => step.high,
-        Sign::Minus => step.low,
+        Some(self.fill(from, to, self.joins, table, 0))
     }
 }

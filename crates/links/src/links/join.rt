@@ -61,7 +61,7 @@ impl Links {
         }
         let x = self.leader(a);
         let y = self.leader(b);
-        if x.index() == y.index() {
+        if x == y {
             return None;
         }
         let number = self.joins;

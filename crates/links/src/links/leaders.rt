@@ -12,17 +12,14 @@ impl Links {
     pub(super) fn number(&self, b: Boundary) -> u16
         ensures { result ≡ number_at self.now.rows b.index }
     {
-        match self.rows[b.index() as usize].edge {
-            Some(edge) => edge.number,
-            None => 1024,
-        }
+        self.row(b).edge.map_or(1024, |edge| edge.number)
     }
 
     // The boundary that the row of `b` hangs from.
     pub(super) fn parent(&self, b: Boundary) -> Boundary
         ensures { result.index ≡ parent_at self.now.rows b.index }
     {
-        Boundary::at(self.rows[b.index() as usize].parent)
+        Boundary::at(self.row(b).parent)
     }
 
     // One step up from `b`, or none where `b` is a leader.
@@ -52,6 +49,6 @@ impl Links {
     pub fn linked(&self, a: Boundary, b: Boundary) -> bool
         ensures { Decides result (Linked (joined self.now) a.index b.index) }
     {
-        self.leader(a).index() == self.leader(b).index()
+        self.leader(a) == self.leader(b)
     }
 }

@@ -4,20 +4,18 @@ ghost use Rattle.links.specs.Joined.{joined};
 
 use super::Links;
 use crate::row::Row;
+use std::array::from_fn;
 
 impl Links {
     // Links that no range has joined yet.
     pub fn new() -> Links
         ensures { joined result ≡ [] }
     {
-        let mut rows = [Row {
-            parent: 0,
+        let rows = from_fn(|i| Row {
+            parent: i as u16,
             size: 1,
             edge: None,
-        }; 1024];
-        for i in 0..1024usize {
-            rows[i].parent = i as u16;
-        }
+        });
         Links { rows, joins: 0 }
     }
 

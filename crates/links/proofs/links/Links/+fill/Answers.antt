@@ -1,5 +1,5 @@
 -- The way before the step, the step, and the way after it are written one after another.
-use Rattle.std.proofs.Common.{◌≡◌, ◌<◌, ◌≤◌, [], length, sym, ap, ◌∙◌, arith}
+use Rattle.std.proofs.Common.{rules, ◌≡◌, ◌<◌, ◌≤◌, [], length, sym, ap, ◌∙◌, arith}
 use Rattle.std.proofs.lemmas.List.{length-set}
 use Rattle.links.specs.Rows.{hung, over, out, way_at}
 use Rattle.links.specs.Written.{put}
@@ -8,11 +8,10 @@ use Rattle.links.proofs.Crossed.{cut_length, filled}
 use Rattle.links.proofs.Putting.{put_none}
 use Rattle.links.proofs.links.Links.+fill.Goals as goal
 
-pub returns-then-index : goal.returns-then-index
-returns-then-index t c =
+pub returns-then-eq : goal.returns-then-eq
+returns-then-eq t c =
     let rows = c.args.self.now.rows in
-    let same : c.args.x.index ≡ c.args.y.index =
-    sym c.index.ensures.value ∙ (c.if-index.true ∙ c.index-2.ensures.value) in
+    let same : c.args.x.index ≡ c.args.y.index = search rules in
     let none : way_at rows c.args.below c.args.x.index c.args.y.index ≡ [] =
     way_none (hung rows) (over rows) (out rows) c.args.below c.args.x.index c.args.y.index same in
     let short = ap length none in
@@ -28,7 +27,7 @@ returns-then-index t c =
 pub crossing-join-requires : goal.crossing-join-requires
 crossing-join-requires t c =
     record {
-      apart = λ e. c.if-index.false (c.index.ensures.value ∙ (e ∙ sym c.index-2.ensures.value));
+      apart = search rules;
       older = c.requires.older;
       one = c.requires.one;
     }

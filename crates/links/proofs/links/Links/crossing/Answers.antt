@@ -1,13 +1,13 @@
 -- The newest join on the way cuts it in two.
-use Rattle.std.proofs.Common.{◌∙◌}
+use Rattle.std.proofs.Common.{true, false, refl, ◌∙◌}
 use Rattle.links.specs.Rows.{hung, over}
 use Rattle.links.proofs.History.{leader_same}
 use Rattle.links.proofs.Invariant.{sound}
 use Rattle.links.proofs.Crossed.{cut}
 use Rattle.links.proofs.links.Links.crossing.Goals as goal
 
-pub newest-join-requires : goal.newest-join-requires
-newest-join-requires c =
+pub newest-requires : goal.newest-requires
+newest-requires c =
     let links = c.args.self.now in
     record {
       apart = c.requires.apart;
@@ -16,10 +16,18 @@ newest-join-requires c =
           c.requires.older c.requires.one;
     }
 
-pub returns : goal.returns
-returns c =
+pub returns-in-Leaves : goal.returns-in-Leaves
+returns-in-Leaves c =
     let links = c.args.self.now in
-    cut links.rows links.joins c.args.below c.args.x.index c.args.y.index c.newest-join.result.at.index (sound links)
-    c.requires.older c.requires.one c.newest-join.result.forth c.number.result c.at.result.index c.at-2.result.index
-    c.out.result c.directed-step.result c.newest-join.ensures c.number.ensures c.out.ensures
-    c.directed-step.ensures (c.at.ensures ∙ c.starts.ensures) (c.at-2.ensures ∙ c.ends.ensures)
+    let here = c.over.ensures in
+    cut links.rows links.joins c.args.below c.args.x.index c.args.y.index c.in-Leaves.at.index (sound links) c.requires.older
+    c.requires.one true _ _ _ c.out.result c.out.result _ c.in-Leaves.ensures (here.older ∙ c.number.ensures) c.out.ensures refl
+    here.step here.near here.far
+
+pub returns-in-Enters : goal.returns-in-Enters
+returns-in-Enters c =
+    let links = c.args.self.now in
+    let here = c.over-in-Enters.ensures in
+    cut links.rows links.joins c.args.below c.args.x.index c.args.y.index c.in-Enters.at.index (sound links) c.requires.older
+    c.requires.one false _ _ _ c.out-in-Enters.result c.reversed.result _ c.in-Enters.ensures
+    (here.older ∙ c.number-in-Enters.ensures) c.out-in-Enters.ensures c.reversed.ensures here.step here.near here.far

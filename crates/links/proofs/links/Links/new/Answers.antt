@@ -1,15 +1,17 @@
 -- Rows with no join keep the invariant, and no range has joined.
-use Rattle.std.proofs.Common.{◌<◌, refl, arith}
+use Rattle.std.proofs.Common.{◌≡◌, ℕ, ◌<◌, None, rules, refl}
 use Rattle.links.specs.Forest.{ranges}
-use Rattle.links.proofs.Opening.{begun_none, begun_more}
+use Rattle.links.specs.Rows.{row_at}
 use Rattle.links.proofs.Sound.{sound_open}
 use Rattle.links.proofs.links.Links.new.Goals as goal
+use Rattle.links.proofs.links.Links.new.Goals.{After-from_fn-rows}
+
+each : (c : After-from_fn-rows) (i : ℕ) → i < 1024 → row_at c.from_fn-rows.result i ≡ record { parent = i; size = 1; edge = None }
+each c i h = let made = c.from_fn-rows.ensures.items.at i (record { parent = 0; size = 0; edge = None }) h in search rules
 
 pub invariant_of-result : goal.invariant_of-result
 invariant_of-result c =
-    let s =
-    sound_open c.loop-i.rows c.loop-i.invariant.0 c.loop-i.invariant.1 c.loop-i.invariant.2
-    (λ i h. c.loop-i.invariant.3 i (let z : i < c.loop-i.i = omega arith in z)) in
+    let s = sound_open c.from_fn-rows.result c.from_fn-rows.ensures.items.long (each c) in
     record {
       long = s.long;
       inside = s.inside;
@@ -26,12 +28,6 @@ invariant_of-result c =
       ended = s.ended;
       sized = s.sized;
     }
-
-pub loop-i-init : goal.loop-i-init
-loop-i-init c = begun_none 1024
-
-pub loop-i-preserved : goal.loop-i-preserved
-loop-i-preserved c = begun_more 1024 c.loop-i.rows c.loop-i.i c.loop-i-test.true c.loop-i.invariant
 
 pub returns : goal.returns
 unfolding ranges

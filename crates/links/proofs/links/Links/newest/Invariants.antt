@@ -4,8 +4,8 @@ use Rattle.links.specs.Rows.{number_at}
 use Rattle.links.proofs.Climbing.{Apart}
 use Rattle.links.proofs.links.Links.newest.Given as goal
 
-abbrev pub invariant-loop-up : goal.invariant-loop-up
-invariant-loop-up l = Apart l.self.rows l.self.joins l.initial.p.index l.initial.q.index l.p.index l.q.index
+abbrev pub invariant-loop-p : goal.invariant-loop-p
+invariant-loop-p l = Apart l.self.rows l.self.joins l.initial.p.index l.initial.q.index l.p.index l.q.index
 
-abbrev pub decreases-loop-up : goal.decreases-loop-up
-decreases-loop-up l = (1024 - number_at l.self.rows l.p.index) + (1024 - number_at l.self.rows l.q.index)
+abbrev pub decreases-loop-p : goal.decreases-loop-p
+decreases-loop-p l = (1024 - number_at l.self.rows l.p.index) + (1024 - number_at l.self.rows l.q.index)
