@@ -142,13 +142,13 @@ pub and_others : {X : Type 0} (f : X → List ℕ) (xs : List X) (i : ℕ) → f
 and_others f xs i = sym (joined_append f (take i xs) (drop i xs)) ∙ ap (flat_map f) (take-append-drop i xs)
 
 -- a turn of a loop that writes one element's text after another's
-pub turned : {X : Type 0} (f : X → List ℕ) (xs : List X) (i : ℕ) (d : X) {buf now rest : List ℕ} {n k : ℕ} → i < length xs → Wrote (flat_map f (take i xs)) buf now (Some n) → Wrote (f (get_or xs i d)) (lent now n) rest (Some k) → Wrote (flat_map f (take (i + 1) xs)) buf (put_mid n (length now - n) now rest) (Some (n + k))
-turned f xs i d h first second = called (one_more f xs i d h) (went_on first second)
+pub turned : {X : Type 0} (f : X → List ℕ) (xs : List X) (i : ℕ) (x : X) {buf now rest : List ℕ} {n k : ℕ} → i < length xs → x ≡ get_or xs i x → Wrote (flat_map f (take i xs)) buf now (Some n) → Wrote (f x) (lent now n) rest (Some k) → Wrote (flat_map f (take (i + 1) xs)) buf (put_mid n (length now - n) now rest) (Some (n + k))
+turned f xs i x h is first second = called (one_more f xs i x h) (went_on first (called (ap f is) second))
 
 -- a turn whose text does not fit ends the loop
-pub turned_over : {X : Type 0} (f : X → List ℕ) (xs : List X) (i : ℕ) (d : X) {buf now rest : List ℕ} {n : ℕ} {r : Option ℕ} → i < length xs → r ≡ None → Wrote (flat_map f (take i xs)) buf now (Some n) → Wrote (f (get_or xs i d)) (lent now n) rest None → Wrote (flat_map f xs) buf (put_mid n (length now - n) now rest) r
-turned_over f xs i d h none first second =
-    called (and_others f xs (i + 1)) (stopped (flat_map f (drop (i + 1) xs)) none (called (one_more f xs i d h) (went_over refl first second)))
+pub turned_over : {X : Type 0} (f : X → List ℕ) (xs : List X) (i : ℕ) (x : X) {buf now rest : List ℕ} {n : ℕ} {r : Option ℕ} → i < length xs → x ≡ get_or xs i x → r ≡ None → Wrote (flat_map f (take i xs)) buf now (Some n) → Wrote (f x) (lent now n) rest None → Wrote (flat_map f xs) buf (put_mid n (length now - n) now rest) r
+turned_over f xs i x h is none first second =
+    called (and_others f xs (i + 1)) (stopped (flat_map f (drop (i + 1) xs)) none (called (one_more f xs i x h) (went_over refl first (called (ap f is) second))))
 
 -- a loop that came to its end wrote all texts
 pub turned_all : {X : Type 0} (f : X → List ℕ) (xs : List X) (i : ℕ) {buf now : List ℕ} {r : Option ℕ} → length xs ≤ i → Wrote (flat_map f (take i xs)) buf now r → Wrote (flat_map f xs) buf now r

@@ -4,19 +4,22 @@ ghost use Rattle.lines.specs.Text.{Wrote, form_text};
 ghost use Rattle.lines.specs.Lines.{in_order, tally_line, closed_line};
 ghost use Rattle.lines.specs.Fits.{Whole};
 
-use crate::writing::put_form;
+use crate::piece::{Each, Piece, Text};
 use ledger::Counts;
 
 fn put_counts(out: &mut [u8], opening: &[u8], counts: Counts) -> Option<usize>
     ensures { Wrote (form_text opening.now (in_order counts) (codes ")\n")) out.old out.new result }
 {
     let numbers = [
-        counts.released as u64,
-        counts.withheld as u64,
-        counts.lost as u64,
-        counts.malformed as u64,
+        u32::from(counts.released),
+        u32::from(counts.withheld),
+        u32::from(counts.lost),
+        u32::from(counts.malformed),
     ];
-    put_form(out, opening, &numbers, b")\n")
+    Text(opening)
+        .then(Each(&numbers))
+        .then(Text(b")\n"))
+        .put(out)
 }
 
 // The line of the counts so far.

@@ -3,12 +3,12 @@ ghost use Rattle.std.specs.Prelude.{decimal};
 ghost use Rattle.lines.specs.Text.{Wrote};
 ghost use Rattle.lines.specs.Digits.{ReadAs};
 
-use crate::writing::put_digits;
+use crate::piece::{Digits, Piece};
 
 // Writes a number in base ten, with no leading zero.
 pub fn write_number(out: &mut [u8], n: u64) -> Option<usize>
     ensures text { Wrote (decimal n) out.old out.new result }
     ensures back { ReadAs n (decimal n) }
 {
-    put_digits(out, n)
+    Digits(n).put(out)
 }

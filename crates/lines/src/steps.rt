@@ -1,28 +1,45 @@
 // The steps of a chain, each written after what the line already holds.
-ghost use Rattle.std.specs.Prelude.{◌≡◌, ◌++◌, codes};
 ghost use Rattle.std.specs.List.{flat_map};
 ghost use Rattle.lines.specs.Text.{Wrote};
 ghost use Rattle.lines.specs.Words.{sign_word, origin_word};
 ghost use Rattle.lines.specs.Lines.{step_text};
 
-use crate::writing::put_form;
+use crate::piece::{Each, Piece, Text};
 use links::{Origin, Sign, Step};
 
-fn opening(sign: Sign) -> &'static [u8]
-    ensures { result.now ≡ codes " (" ++ sign_word sign }
-{
-    match sign {
-        Sign::Plus => b" (+",
-        Sign::Minus => b" (-",
+impl Piece for Sign {
+    ghost text = { sign_word };
+
+    fn put(&self, out: &mut [u8]) -> Option<usize> {
+        match self {
+            Sign::Plus => Text(b"+").put(out),
+            Sign::Minus => Text(b"-").put(out),
+        }
     }
 }
 
-fn closing(origin: Origin) -> &'static [u8]
-    ensures { result.now ≡ origin_word origin ++ codes ")" }
-{
-    match origin {
-        Origin::Released => b")",
-        Origin::New => b" new)",
+impl Piece for Origin {
+    ghost text = { origin_word };
+
+    fn put(&self, out: &mut [u8]) -> Option<usize> {
+        match self {
+            Origin::Released => Text(b"").put(out),
+            Origin::New => Text(b" new").put(out),
+        }
+    }
+}
+
+impl Piece for Step {
+    ghost text = { step_text };
+
+    fn put(&self, out: &mut [u8]) -> Option<usize> {
+        let ends = [u32::from(self.low), u32::from(self.high)];
+        Text(b" (")
+            .then(self.sign)
+            .then(Each(&ends))
+            .then(self.origin)
+            .then(Text(b")"))
+            .put(out)
     }
 }
 
@@ -30,17 +47,12 @@ fn closing(origin: Origin) -> &'static [u8]
 pub fn write_step(out: &mut [u8], step: Step) -> Option<usize>
     ensures { Wrote (step_text step) out.old out.new result }
 {
-    let ends = [step.low as u64, step.high as u64];
-    put_form(out, opening(step.sign), &ends, closing(step.origin))
+    step.put(out)
 }
 
 // Writes the steps one after the other: the rest of the buffer, from the filled length on, is lent for each.
 pub fn write_chain(out: &mut [u8], steps: &[Step]) -> Option<usize>
     ensures { Wrote (flat_map step_text steps.now) out.old out.new result }
 {
-    let mut len = 0;
-    for step in steps {
-        len += write_step(&mut out[len..], *step)?;
-    }
-    Some(len)
+    Each(steps).put(out)
 }

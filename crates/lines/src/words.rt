@@ -2,6 +2,8 @@
 ghost use Rattle.std.specs.Prelude.{◌≡◌};
 ghost use Rattle.lines.specs.Words.{kind_word, layer_word};
 
+use crate::piece::{Piece, Text};
+
 #[derive(Clone, Copy, Debug, PartialEq, Eq)]
 pub enum KindName {
     Wh,
@@ -21,6 +23,14 @@ impl KindName {
     }
 }
 
+impl Piece for KindName {
+    ghost text = { kind_word };
+
+    fn put(&self, out: &mut [u8]) -> Option<usize> {
+        Text(self.word()).put(out)
+    }
+}
+
 // The layer of a script's reader that found a fault: its text, or its forms.
 #[derive(Clone, Copy, Debug, PartialEq, Eq)]
 pub enum Layer {
@@ -36,5 +46,13 @@ impl Layer {
             Layer::Text => b"text",
             Layer::Form => b"form",
         }
+    }
+}
+
+impl Piece for Layer {
+    ghost text = { layer_word };
+
+    fn put(&self, out: &mut [u8]) -> Option<usize> {
+        Text(self.word()).put(out)
     }
 }

@@ -5,7 +5,7 @@ ghost use Rattle.ledger.specs.State.{rule_of, releases_of};
 ghost use Rattle.ledger.specs.Truth.{TrueTo};
 ghost use Rattle.script.specs.Printed.{AskedAndPrinted};
 
-use crate::print::print_answer;
+use crate::print::{Answered, print};
 use crate::sink::Sink;
 use kinds::Kind;
 use ledger::{Amounts, Ledger};
@@ -34,5 +34,12 @@ pub(crate) fn ask<K: Kind, T: Store<K>, R: Rule, S: Sink>(
     ensures stays { amounts.new.distances.table.ghost_name ≡ amounts.old.distances.table.ghost_name }
 {
     let answer = ledger.query(amounts, store, rule, low, high, steps);
-    print_answer(line, sink, kind, low, high, &answer, steps);
+    let told = Answered {
+        kind,
+        low,
+        high,
+        answer: &answer,
+        table: steps,
+    };
+    print(line, sink, &told);
 }

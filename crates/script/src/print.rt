@@ -1,63 +1,91 @@
-// One printed line each: made in the line buffer, and put into the sink.
-ghost use Rattle.std.specs.Prelude.{◌≤◌, length};
+// One printed line: made in the line buffer, and put into the sink.
+ghost use Rattle.std.specs.Prelude.{ℕ, ◌≤◌, List, length, ⊤};
 ghost use Rattle.ledger.specs.State.{valued_answer};
-ghost use Rattle.lines.specs.Fits.{ModestAnswer};
+ghost use Rattle.lines.specs.Text.{Wrote};
+ghost use Rattle.lines.specs.Fits.{Whole, ModestAnswer};
 ghost use Rattle.lines.specs.Lines.{answer_line, tally_line, closed_line, fault_line};
 
 use crate::sink::Sink;
 use kinds::Kind;
 use ledger::{Answer, Counts};
-use lines::{KindName, Layer, answer_line, closed_line, fault_line, tally_line};
+use lines::{KindName, ScriptFault, answer_line, closed_line, fault_line, tally_line};
 use links::Step;
 
-pub(crate) fn print_answer<K: Kind, S: Sink>(
-    line: &mut [u8],
-    sink: &mut S,
-    kind: KindName,
-    low: u32,
-    high: u32,
-    answer: &Answer<K>,
-    steps: &[Step],
-)
+// What is printed as one line; the line buffer holds it where it is modest.
+pub(crate) trait Line {
+    ghost text: { Self → List ℕ };
+
+    ghost modest: { Self → Type 0 };
+
+    fn write(&self, out: &mut [u8]) -> Option<usize>
+        ensures text { Wrote (text self.now) out.old out.new result }
+        ensures whole { modest self.now → Whole (text self.now) out.old result };
+}
+
+pub(crate) fn print<L: Line, S: Sink>(line: &mut [u8], sink: &mut S, told: &L)
     requires room { 16384 ≤ length line.old }
-    requires modest { ModestAnswer answer.now steps.now }
-    ensures { S.Sink.puts sink.old (answer_line kind K.Kind.numbers low high (valued_answer K.Kind.meaning answer.now) steps.now) sink.new }
+    requires modest { L.Line.modest told.now }
+    ensures { S.Sink.puts sink.old (L.Line.text told.now) sink.new }
 {
-    if let Some(n) = answer_line(line, kind, low, high, answer, steps) {
-        sink.put(&line[0..n]);
+    if let Some(n) = told.write(line) {
+        sink.put(&line[..n]);
     }
 }
 
-pub(crate) fn print_tally<S: Sink>(line: &mut [u8], sink: &mut S, counts: Counts)
-    requires { 16384 ≤ length line.old }
-    ensures { S.Sink.puts sink.old (tally_line counts) sink.new }
-{
-    if let Some(n) = tally_line(line, counts) {
-        sink.put(&line[0..n]);
+// What a ledger answered to a query, with the table that has the chain of a withheld one in its first steps.
+#[derive(Clone, Copy)]
+pub(crate) struct Answered<'a, K> {
+    pub(crate) kind: KindName,
+    pub(crate) low: u32,
+    pub(crate) high: u32,
+    pub(crate) answer: &'a Answer<K>,
+    pub(crate) table: &'a [Step],
+}
+
+impl<K: Kind> Line for Answered<'_, K> {
+    ghost text = { λ it. answer_line it.kind K.Kind.numbers it.low it.high (valued_answer K.Kind.meaning it.answer.now) it.table.now };
+
+    ghost modest = { λ it. ModestAnswer it.answer.now it.table.now };
+
+    fn write(&self, out: &mut [u8]) -> Option<usize> {
+        answer_line(out, self.kind, self.low, self.high, self.answer, self.table)
     }
 }
 
-pub(crate) fn print_closed<S: Sink>(line: &mut [u8], sink: &mut S, counts: Counts)
-    requires { 16384 ≤ length line.old }
-    ensures { S.Sink.puts sink.old (closed_line counts) sink.new }
-{
-    if let Some(n) = closed_line(line, counts) {
-        sink.put(&line[0..n]);
+// The counts so far.
+#[derive(Clone, Copy)]
+pub(crate) struct Tally(pub(crate) Counts);
+
+impl Line for Tally {
+    ghost text = { λ it. tally_line it.0 };
+
+    ghost modest = { λ it. ⊤ };
+
+    fn write(&self, out: &mut [u8]) -> Option<usize> {
+        tally_line(out, self.0)
     }
 }
 
-pub(crate) fn print_fault<S: Sink>(
-    line: &mut [u8],
-    sink: &mut S,
-    row: u32,
-    column: u32,
-    layer: Layer,
-    number: u8,
-)
-    requires { 16384 ≤ length line.old }
-    ensures { S.Sink.puts sink.old (fault_line row column layer number) sink.new }
-{
-    if let Some(n) = fault_line(line, row as usize, column as usize, layer, number) {
-        sink.put(&line[0..n]);
+// The counts at the close.
+#[derive(Clone, Copy)]
+pub(crate) struct Closed(pub(crate) Counts);
+
+impl Line for Closed {
+    ghost text = { λ it. closed_line it.0 };
+
+    ghost modest = { λ it. ⊤ };
+
+    fn write(&self, out: &mut [u8]) -> Option<usize> {
+        closed_line(out, self.0)
+    }
+}
+
+impl Line for ScriptFault {
+    ghost text = { λ it. fault_line it.line it.column it.layer it.number };
+
+    ghost modest = { λ it. ⊤ };
+
+    fn write(&self, out: &mut [u8]) -> Option<usize> {
+        fault_line(out, *self)
     }
 }

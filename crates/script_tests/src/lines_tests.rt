@@ -2,8 +2,8 @@
 use kinds::{Dials, Wh};
 use ledger::{Answer, Counts, Fault, Trial};
 use lines::{
-    KindName, Layer, answer_line, begin_rehearsed, closed_line, end_rehearsed, fault_line,
-    has_room, tally_line, write_number, write_trial,
+    KindName, Layer, ScriptFault, answer_line, begin_rehearsed, closed_line, end_rehearsed,
+    fault_line, has_room, tally_line, write_number, write_trial,
 };
 use links::{Origin, Range, Sign, Step};
 
@@ -106,9 +106,21 @@ fn counts_faults_and_numbers(rt: HostRuntime) {
     assert_eq!(rt; holds(&out, n, b"(tally 4 1 1 1)\n"), true);
     let n = closed_line(&mut out, COUNTS);
     assert_eq!(rt; holds(&out, n, b"(closed 4 1 1 1)\n"), true);
-    let n = fault_line(&mut out, 12, 2, Layer::Form, 21);
+    let form = ScriptFault {
+        line: 12,
+        column: 2,
+        layer: Layer::Form,
+        number: 21,
+    };
+    let n = fault_line(&mut out, form);
     assert_eq!(rt; holds(&out, n, b"(fault 12 2 form 21)\n"), true);
-    let n = fault_line(&mut out, 0, 0, Layer::Text, 11);
+    let text = ScriptFault {
+        line: 0,
+        column: 0,
+        layer: Layer::Text,
+        number: 11,
+    };
+    let n = fault_line(&mut out, text);
     assert_eq!(rt; holds(&out, n, b"(fault 0 0 text 11)\n"), true);
     let n = write_number(&mut out, 18_446_744_073_709_551_615);
     assert_eq!(rt; holds(&out, n, b"18446744073709551615"), true);

@@ -4,8 +4,8 @@ use Rattle.ledger.specs.State.{rule_of, valued_answer, state_of}
 use Rattle.script.proofs.Modesty.{answer_modest}
 use Rattle.script.proofs.asking.ask.Goals as goal
 
-pub print_answer-requires : goal.print_answer-requires
-print_answer-requires g c =
+pub print-requires : goal.print-requires
+print-requires g c =
     let log = meant g.K.Kind.meaning (g.T.Store.log c.args.store.now) in
     let rule = rule_of (g.R.Rule.protects c.args.rule.now) (g.R.Rule.ordered c.args.rule.now) in
     let long = c.requires.steps in
@@ -17,6 +17,6 @@ print_answer-requires g c =
 pub returns : goal.returns
 returns g c = record {
   faithful = (c.query-answer.ensures.faithful c.requires.faithful).0;
-  asked = record { answer = valued_answer g.K.Kind.meaning c.query-answer.result; queried = c.query-answer.ensures.asked; put = c.print_answer.ensures };
+  asked = record { answer = valued_answer g.K.Kind.meaning c.query-answer.result; queried = c.query-answer.ensures.asked; put = c.print.ensures };
   stays = c.query-answer.ensures.stays;
 }
