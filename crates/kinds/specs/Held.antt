@@ -1,12 +1,13 @@
 -- Held numbers and the residues that they mean, and rows of one, two and four places. Assumes nothing.
-use Rattle.std.specs.Prelude.{◌≡◌, ℕ, ◌+◌, ◌*◌, ◌%◌, ◌<◌, ◌≤◌, Bool, true, false, cond, ◌&&◌, List, [], ◌∷◌, length, Some, None, Decides, nat_lt, slice_index, refl}
+use Rattle.std.specs.Prelude.{◌≡◌, ℕ, ◌+◌, ◌*◌, ◌%◌, ◌<◌, ◌≤◌, Bool, true, false, cond, ◌&&◌, List, [], ◌∷◌, length, Some, None, Decides, ◌==◌, nat_lt, slice_index, refl}
 use Rattle.std.proofs.Common.{sym, ap, ◌∙◌, mod-eq_of_lt, mul-zero, mul_comm, arith, lit<}
 use Rattle.std.proofs.Math.Nat.{mod-mod, add-mod}
 use Rattle.std.specs.Option.{option_map}
 use Rattle.std.proofs.lemmas.Bool.{eq-eqb, lt-ltb, le-ltb, cond-true, cond-false}
-use Rattle.std.proofs.lemmas.Bool.Decides.{Decides-like}
+use Rattle.std.proofs.lemmas.Bool.Decides.{Decides-eqb, Decides-and, Decides-like}
 use Rattle.kinds.specs.Digits.{number, residue_of}
-use Rattle.kinds.specs.Kinds.{dials_meaning}
+use Rattle.kinds.specs.Kinds.{DialValue, dials_meaning, dials_eq}
+use Rattle.kinds.specs.declared.dials.Dials.{Dials}
 use Rattle.kinds.specs.Pairs.{both}
 use Rattle.kinds.specs.Residues.{Residue, residue, same_residue}
 
@@ -23,6 +24,10 @@ module _ (m : ℕ) (some : 0 < m) where
   -- two numbers mean the same residue just where their remainders are equal
   pub same_means : (r : Bool) (a b : ℕ) → Decides r (a % m ≡ b % m) → Decides r (residue m some a ≡ residue m some b)
   same_means r a b = Decides-like r (same_residue (residue m some a) (residue m some b)) (ap (λ (x : Residue m). x.number))
+
+  -- equal remainders are one residue, and no others are
+  pub residues_equal : (a b : ℕ) → Decides (a % m == b % m) (residue m some a ≡ residue m some b)
+  residues_equal a b = same_means _ a b (Decides-eqb (a % m) (b % m))
 
   -- a row of the right length is judged by its number alone
   pub residue_of_row : (base w : ℕ) (row : List ℕ) (n : ℕ) → length row ≡ w → number base row ≡ n → residue_of base w m some row ≡ cond (nat_lt n m) (Some (residue m some n)) None
@@ -50,6 +55,15 @@ number_four (a ∷ []) h = absurd (omega arith)
 number_four (a ∷ b ∷ row) h =
     let rest = number_two 256 row (omega arith) in
     omega arith
+
+-- dials are equal just where both numbers leave the same remainders
+pub dials_equal : (a b : Dials) → Decides (dials_eq a b) (dials_meaning a ≡ dials_meaning b)
+dials_equal a b =
+    Decides-like
+    _
+    (λ e i. (e.0 i, e.1 i))
+    (λ e. (ap (λ (v : DialValue). v.0) e, ap (λ (v : DialValue). v.1) e))
+    (Decides-and _ _ (residues_equal 10000 (lit< tt) a.litres b.litres) (residues_equal 1000 (lit< tt) a.starts b.starts))
 
 pub both_judged : {H U V : Type 0} (f : H → U × V) (t u : Bool) (x : H) → option_map f (cond (t && u) (Some x) None) ≡ both (cond t (Some (f x).0) None) (cond u (Some (f x).1) None)
 both_judged f true true x = refl

@@ -1,5 +1,6 @@
 -- The three kinds: their values, how these add, and how they stand as bytes and as numbers. Assumes nothing.
-use Rattle.std.specs.Prelude.{◌^◌}
+use Rattle.std.specs.Prelude.{◌%◌, ◌^◌, Bool, ◌==◌}
+use Rattle.std.specs.Ordering.{on, eq_of_both}
 use Rattle.std.proofs.Common.{lit<, lit≤}
 use Rattle.kinds.specs.declared.dials.Dials.{Dials}
 use Rattle.kinds.specs.declared.toggles.Toggles.{Toggles}
@@ -17,6 +18,10 @@ wh_group = modular (2 ^ 32) (lit< tt) (lit< tt)
 abbrev pub wh_meaning : Wh → Residue (2 ^ 32)
 wh_meaning x = residue (2 ^ 32) (lit< tt) x.amount
 
+-- readings are equal where they mean the same
+abbrev pub wh_eq : Wh → Wh → Bool
+wh_eq = on (λ x. x.amount % 2 ^ 32) ◌==◌
+
 abbrev pub wh_held : Residue (2 ^ 32) → Wh
 wh_held v = record { amount = v.number }
 
@@ -32,6 +37,9 @@ toggles_group = masks 16 (lit< tt) (lit< tt)
 
 abbrev pub toggles_meaning : Toggles → Residue (2 ^ 16)
 toggles_meaning x = residue (2 ^ 16) (lit< tt) x.mask
+
+abbrev pub toggles_eq : Toggles → Toggles → Bool
+toggles_eq = on (λ x. x.mask % 2 ^ 16) ◌==◌
 
 abbrev pub toggles_held : Residue (2 ^ 16) → Toggles
 toggles_held v = record { mask = v.number }
@@ -52,6 +60,9 @@ dials_group = paired (modular 10000 (lit< tt) (lit< tt)) (modular 1000 (lit< tt)
 -- a pair beyond its ends means its remainders
 abbrev pub dials_meaning : Dials → DialValue
 dials_meaning x = (residue 10000 (lit< tt) x.litres, residue 1000 (lit< tt) x.starts)
+
+abbrev pub dials_eq : Dials → Dials → Bool
+dials_eq = eq_of_both (on (λ x. x.litres % 10000) ◌==◌) (on (λ x. x.starts % 1000) ◌==◌)
 
 abbrev pub dials_held : DialValue → Dials
 dials_held v = record { litres = v.0.number; starts = v.1.number }

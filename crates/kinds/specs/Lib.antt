@@ -5,3 +5,4 @@ pub mod Digits
 pub mod Pairs
 pub mod Kinds
 pub mod Held
+pub mod Names

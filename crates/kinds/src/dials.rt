@@ -1,13 +1,17 @@
 // Dials: litres below 10,000 and starts below 1,000, each added modulo its end; four bytes, litres in the first two; two numbers.
-ghost use Rattle.std.specs.Prelude.{◌≡◌, ◌+◌, ◌-◌, ◌%◌, ◌^◌, ◌&&◌, eqb, ltb, [], ◌∷◌, ◌++◌, length, take, drop, is_ok, if◌then◌else◌, Some, None, Decides, nat_lt, slice_index};
-ghost use Rattle.std.proofs.Common.{lit<};
+ghost use Rattle.std.specs.Prelude.{◌≡◌, refl, ◌+◌, ◌-◌, ◌%◌, ◌^◌, ◌&&◌, ◌↔◌, eqb, ltb, [], ◌∷◌, ◌++◌, length, take, drop, is_ok, if◌then◌else◌, Some, None, IsTrue, nat_lt, slice_index};
+ghost use Rattle.std.proofs.Common.{lit<, rules};
+ghost use Rattle.std.specs.Cmp.Rules.{comparing};
 ghost use Rattle.std.specs.Option.{option_map};
 ghost use Rattle.kinds.specs.Codec.{fitted, filled};
 ghost use Rattle.kinds.specs.Digits.{digits, number};
-ghost use Rattle.kinds.specs.Kinds.{DialValue, dials_group, dials_meaning, dials_held, dials_bytes, dials_numbers};
-ghost use Rattle.kinds.specs.Held.{residue_self};
+ghost use Rattle.kinds.specs.declared.names.KindName.{KindName};
+ghost use Rattle.kinds.specs.Kinds.{DialValue, dials_group, dials_meaning, dials_eq, dials_held, dials_bytes, dials_numbers};
+ghost use Rattle.kinds.specs.Held.{residue_self, dials_equal};
 
-use crate::kind::{Kind, WrongLength};
+use crate::kind::{Kind, WrongLength, fill};
+use crate::names::KindName;
+use std::fmt;
 
 const LITRES_END: u16 = 10_000;
 
@@ -32,20 +36,45 @@ impl Dials {
     }
 
     // The pair of two numbers that lie within its ends.
-    fn within(litres: u32, starts: u32) -> Option<Dials>
+    fn within(litres: u16, starts: u16) -> Option<Dials>
         ensures { result ≡ (if ltb litres 10000 && nat_lt starts 1000 then Some (record { litres = litres; starts = starts }) else None) }
     {
-        if litres < u32::from(LITRES_END) && starts < u32::from(STARTS_END) {
-            return Some(Dials {
-                litres: litres as u16,
-                starts: starts as u16,
-            });
-        }
-        None
+        (litres < LITRES_END && starts < STARTS_END).then_some(Dials { litres, starts })
+    }
+}
+
+// Dials are equal where they mean the same, whatever pair is held.
+impl PartialEq for Dials {
+    ghost eq = { dials_eq };
+
+    ghost laws = { Prim.search (comparing, rules) };
+
+    fn eq(&self, other: &Dials) -> bool
+        ensures meant { result ≡ dials_eq self.now other.now }
+        ensures value { IsTrue result ↔ ((self.now.litres % 10000 ≡ other.now.litres % 10000) × (self.now.starts % 1000 ≡ other.now.starts % 1000)) }
+    {
+        let a = self.reduced();
+        let b = other.reduced();
+        (a.litres, a.starts) == (b.litres, b.starts)
+    }
+}
+
+impl Eq for Dials {
+    ghost laws = { Prim.search (comparing, rules) };
+}
+
+impl fmt::Display for Dials {
+    fn fmt<W: fmt::Write>(&self, f: &mut fmt::Formatter<W>) -> fmt::Result {
+        let a = self.reduced();
+        write!(f, "{} {}", a.litres, a.starts)
     }
 }
 
 impl Kind for Dials {
+    ghost NAME = { KindName.Dials };
+
+    const NAME: KindName = KindName::Dials;
+
     ghost Value = { DialValue };
 
     ghost group = { dials_group };
@@ -58,25 +87,21 @@ impl Kind for Dials {
 
     ghost numbers = { dials_numbers };
 
+    ghost BYTES = { 4 };
+
     const BYTES: u8 = 4;
+
+    ghost NUMBERS = { 2 };
 
     const NUMBERS: u8 = 2;
 
     ghost means = { λ v i. (residue_self 10000 (lit< tt) v.0 i, residue_self 1000 (lit< tt) v.1 i) };
 
-    fn byte_count() -> u8
-        ensures meant { result ≡ dials_bytes.size }
-        ensures value { result ≡ 4 }
-    {
-        Self::BYTES
-    }
+    ghost equal = { dials_equal };
 
-    fn number_count() -> u8
-        ensures meant { result ≡ dials_numbers.size }
-        ensures value { result ≡ 2 }
-    {
-        Self::NUMBERS
-    }
+    ghost bytes_long = { refl };
+
+    ghost numbers_long = { refl };
 
     fn zero() -> Dials
         ensures meant { dials_meaning result ≡ dials_group.zero }
@@ -111,40 +136,27 @@ impl Kind for Dials {
         }
     }
 
-    fn same(self, other: Dials) -> bool
-        ensures meant { Decides result (dials_meaning self ≡ dials_meaning other) }
-        ensures value { Decides result ((self.litres % 10000 ≡ other.litres % 10000) × (self.starts % 1000 ≡ other.starts % 1000)) }
-    {
-        let a = self.reduced();
-        let b = other.reduced();
-        (a.litres == b.litres) & (a.starts == b.starts)
-    }
-
     fn write_bytes(self, out: &mut [u8]) -> Result<(), WrongLength>
         ensures test { is_ok result ≡ fitted dials_bytes out.old }
         ensures after { out.new ≡ filled dials_bytes (dials_meaning self) out.old }
         ensures value { out.new ≡ (if eqb (length out.old) 4 then digits 256 2 (self.litres % 10000) ++ digits 256 2 (self.starts % 1000) else out.old) }
     {
-        if out.len() != 4 {
-            return Err(WrongLength);
-        }
         let a = self.reduced();
         let [l0, l1] = a.litres.to_le_bytes();
         let [s0, s1] = a.starts.to_le_bytes();
-        out.copy_from_slice(&[l0, l1, s0, s1]);
-        Ok(())
+        fill(out, &[l0, l1, s0, s1])
     }
 
     fn read_bytes(row: &[u8]) -> Option<Dials>
         ensures meant { option_map dials_meaning result ≡ dials_bytes.read row.now }
         ensures value { result ≡ (if eqb (length row.now) 4 && (nat_lt (number 256 (take 2 row.now)) 10000 && nat_lt (number 256 (drop 2 row.now)) 1000) then Some (record { litres = number 256 (take 2 row.now); starts = number 256 (drop 2 row.now) }) else None) }
     {
-        if row.len() != 4 {
+        let &[l0, l1, s0, s1] = row else {
             return None;
-        }
-        let litres = u16::from_le_bytes([row[0], row[1]]);
-        let starts = u16::from_le_bytes([row[2], row[3]]);
-        Dials::within(u32::from(litres), u32::from(starts))
+        };
+        let litres = u16::from_le_bytes([l0, l1]);
+        let starts = u16::from_le_bytes([s0, s1]);
+        Dials::within(litres, starts)
     }
 
     fn write_numbers(self, out: &mut [u32]) -> Result<(), WrongLength>
@@ -152,21 +164,17 @@ impl Kind for Dials {
         ensures after { out.new ≡ filled dials_numbers (dials_meaning self) out.old }
         ensures value { out.new ≡ (if eqb (length out.old) 2 then (self.litres % 10000) ∷ (self.starts % 1000) ∷ [] else out.old) }
     {
-        if out.len() != 2 {
-            return Err(WrongLength);
-        }
         let a = self.reduced();
-        out.copy_from_slice(&[u32::from(a.litres), u32::from(a.starts)]);
-        Ok(())
+        fill(out, &[u32::from(a.litres), u32::from(a.starts)])
     }
 
     fn read_numbers(row: &[u32]) -> Option<Dials>
         ensures meant { option_map dials_meaning result ≡ dials_numbers.read row.now }
         ensures value { result ≡ (if eqb (length row.now) 2 && (nat_lt (slice_index row.now 0) 10000 && nat_lt (slice_index row.now 1) 1000) then Some (record { litres = slice_index row.now 0; starts = slice_index row.now 1 }) else None) }
     {
-        if row.len() != 2 {
+        let &[litres, starts] = row else {
             return None;
-        }
-        Dials::within(row[0], row[1])
+        };
+        Dials::within(u16::try_from(litres).ok()?, u16::try_from(starts).ok()?)
     }
 }

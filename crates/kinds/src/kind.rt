@@ -1,14 +1,35 @@
 // The interface of a kind of reading. Its meaning is a commutative group; code above it rests on that alone.
-ghost use Rattle.std.specs.Prelude.{◌≡◌, ◌^◌, is_ok, Decides};
+ghost use Rattle.std.specs.Prelude.{◌≡◌, ℕ, ◌^◌, ◌==◌, ◌↔◌, length, is_ok, if◌then◌else◌, IsTrue};
 ghost use Rattle.std.specs.Option.{option_map};
+ghost use Rattle.kinds.specs.declared.names.KindName.{KindName};
 ghost use Rattle.kinds.specs.Group.{Group};
 ghost use Rattle.kinds.specs.Codec.{Codec, fitted, filled};
+
+use crate::names::KindName;
 
 // A buffer that has not as many places as a value has bytes, or numbers.
 #[derive(Clone, Copy, Debug, PartialEq, Eq)]
 pub struct WrongLength;
 
-pub trait Kind: Copy {
+// Copies a row into a buffer of just its length; any other buffer is left as it was.
+pub(crate) fn fill<T: Copy>(out: &mut [T], row: &[T]) -> Result<(), WrongLength>
+    ensures test { is_ok result ≡ (length out.old == length row.now) }
+    ensures after { out.new ≡ (if length out.old == length row.now then row.now else out.old) }
+{
+    if out.len() != row.len() {
+        return Err(WrongLength);
+    }
+    out.copy_from_slice(row);
+    Ok(())
+}
+
+// Two readings are equal just where they mean the same value.
+pub trait Kind: Copy + Eq {
+    // The kind's own name.
+    ghost NAME: { KindName };
+
+    const NAME: KindName;
+
     // The values of the kind.
     ghost Value: { Type 0 };
 
@@ -25,15 +46,13 @@ pub trait Kind: Copy {
     ghost numbers: { Codec (2 ^ 32) Value };
 
     // How many bytes a value has, and how many numbers.
+    ghost BYTES: { ℕ };
+
     const BYTES: u8;
 
+    ghost NUMBERS: { ℕ };
+
     const NUMBERS: u8;
-
-    fn byte_count() -> u8
-        ensures { result ≡ bytes.size };
-
-    fn number_count() -> u8
-        ensures { result ≡ numbers.size };
 
     fn zero() -> Self
         ensures { meaning result ≡ group.zero };
@@ -43,10 +62,6 @@ pub trait Kind: Copy {
 
     fn inverse(self) -> Self
         ensures { meaning result ≡ group.inverse (meaning self) };
-
-    // Whether the two mean the same value.
-    fn same(self, other: Self) -> bool
-        ensures { Decides result (meaning self ≡ meaning other) };
 
     // Writes the value's bytes into a buffer of just their number; any other buffer is left as it was.
     fn write_bytes(self, out: &mut [u8]) -> Result<(), WrongLength>
@@ -65,4 +80,10 @@ pub trait Kind: Copy {
         ensures { option_map meaning result ≡ numbers.read row.now };
 
     ghost means: { (v : Value) → meaning (held v) ≡ v };
+
+    ghost equal: { (a b : Self) → IsTrue (Self.eq a b) ↔ (meaning a ≡ meaning b) };
+
+    ghost bytes_long: { bytes.size ≡ BYTES };
+
+    ghost numbers_long: { numbers.size ≡ NUMBERS };
 }

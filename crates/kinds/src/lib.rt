@@ -3,10 +3,12 @@
 
 mod dials;
 mod kind;
+mod names;
 mod toggles;
 mod wh;
 
 pub use dials::Dials;
 pub use kind::{Kind, WrongLength};
+pub use names::{KindName, UnknownKind};
 pub use toggles::Toggles;
 pub use wh::Wh;

@@ -1,21 +1,53 @@
 // Relay toggles: a mask of 16 bits, one bit a relay, added by exclusive or; two bytes, the lowest first; one number.
-ghost use Rattle.std.specs.Prelude.{◌≡◌, ◌^◌, ◌&&◌, eqb, [], ◌∷◌, length, is_ok, if◌then◌else◌, Some, None, Decides, bit_xor, nat_lt, slice_index};
-ghost use Rattle.std.proofs.Common.{lit<};
+ghost use Rattle.std.specs.Prelude.{◌≡◌, refl, ◌^◌, ◌&&◌, ◌↔◌, eqb, [], ◌∷◌, length, is_ok, if◌then◌else◌, Some, None, IsTrue, bit_xor, nat_lt, slice_index};
+ghost use Rattle.std.proofs.Common.{lit<, rules};
+ghost use Rattle.std.specs.Cmp.Rules.{comparing};
 ghost use Rattle.std.specs.Option.{option_map};
 ghost use Rattle.kinds.specs.Codec.{fitted, filled};
 ghost use Rattle.kinds.specs.Digits.{digits, number};
 ghost use Rattle.kinds.specs.Residues.{Residue};
-ghost use Rattle.kinds.specs.Kinds.{toggles_group, toggles_meaning, toggles_held, toggles_bytes, toggles_numbers};
-ghost use Rattle.kinds.specs.Held.{residue_self};
+ghost use Rattle.kinds.specs.declared.names.KindName.{KindName};
+ghost use Rattle.kinds.specs.Kinds.{toggles_group, toggles_meaning, toggles_eq, toggles_held, toggles_bytes, toggles_numbers};
+ghost use Rattle.kinds.specs.Held.{residue_self, residues_equal};
 
-use crate::kind::{Kind, WrongLength};
+use crate::kind::{Kind, WrongLength, fill};
+use crate::names::KindName;
+use std::fmt;
 
 #[derive(Clone, Copy, Debug)]
 pub struct Toggles {
     pub mask: u16,
 }
 
+// Stays: a derived `==` has a law at numbers past 2^16 too, where held numbers differ and mean the same.
+impl PartialEq for Toggles {
+    ghost eq = { toggles_eq };
+
+    ghost laws = { Prim.search (comparing, rules) };
+
+    fn eq(&self, other: &Toggles) -> bool
+        ensures meant { result ≡ toggles_eq self.now other.now }
+        ensures value { IsTrue result ↔ (self.now.mask ≡ other.now.mask) }
+    {
+        self.mask == other.mask
+    }
+}
+
+impl Eq for Toggles {
+    ghost laws = { Prim.search (comparing, rules) };
+}
+
+impl fmt::Display for Toggles {
+    fn fmt<W: fmt::Write>(&self, f: &mut fmt::Formatter<W>) -> fmt::Result {
+        write!(f, "{}", self.mask)
+    }
+}
+
 impl Kind for Toggles {
+    ghost NAME = { KindName.Toggles };
+
+    const NAME: KindName = KindName::Toggles;
+
     ghost Value = { Residue (2 ^ 16) };
 
     ghost group = { toggles_group };
@@ -28,25 +60,21 @@ impl Kind for Toggles {
 
     ghost numbers = { toggles_numbers };
 
+    ghost BYTES = { 2 };
+
     const BYTES: u8 = 2;
+
+    ghost NUMBERS = { 1 };
 
     const NUMBERS: u8 = 1;
 
     ghost means = { residue_self (2 ^ 16) (lit< tt) };
 
-    fn byte_count() -> u8
-        ensures meant { result ≡ toggles_bytes.size }
-        ensures value { result ≡ 2 }
-    {
-        Self::BYTES
-    }
+    ghost equal = { λ a b. residues_equal (2 ^ 16) (lit< tt) a.mask b.mask };
 
-    fn number_count() -> u8
-        ensures meant { result ≡ toggles_numbers.size }
-        ensures value { result ≡ 1 }
-    {
-        Self::NUMBERS
-    }
+    ghost bytes_long = { refl };
+
+    ghost numbers_long = { refl };
 
     fn zero() -> Toggles
         ensures meant { toggles_meaning result ≡ toggles_group.zero }
@@ -71,34 +99,23 @@ impl Kind for Toggles {
         self
     }
 
-    fn same(self, other: Toggles) -> bool
-        ensures meant { Decides result (toggles_meaning self ≡ toggles_meaning other) }
-        ensures value { Decides result (self.mask ≡ other.mask) }
-    {
-        self.mask == other.mask
-    }
-
     fn write_bytes(self, out: &mut [u8]) -> Result<(), WrongLength>
         ensures test { is_ok result ≡ fitted toggles_bytes out.old }
         ensures after { out.new ≡ filled toggles_bytes (toggles_meaning self) out.old }
         ensures value { out.new ≡ (if eqb (length out.old) 2 then digits 256 2 self.mask else out.old) }
     {
-        if out.len() != 2 {
-            return Err(WrongLength);
-        }
-        out.copy_from_slice(&self.mask.to_le_bytes());
-        Ok(())
+        fill(out, &self.mask.to_le_bytes())
     }
 
     fn read_bytes(row: &[u8]) -> Option<Toggles>
         ensures meant { option_map toggles_meaning result ≡ toggles_bytes.read row.now }
         ensures value { result ≡ (if eqb (length row.now) 2 then Some (record { mask = number 256 row.now }) else None) }
     {
-        if row.len() != 2 {
+        let &[a, b] = row else {
             return None;
-        }
+        };
         Some(Toggles {
-            mask: u16::from_le_bytes([row[0], row[1]]),
+            mask: u16::from_le_bytes([a, b]),
         })
     }
 
@@ -107,25 +124,18 @@ impl Kind for Toggles {
         ensures after { out.new ≡ filled toggles_numbers (toggles_meaning self) out.old }
         ensures value { out.new ≡ (if eqb (length out.old) 1 then self.mask ∷ [] else out.old) }
     {
-        if out.len() != 1 {
-            return Err(WrongLength);
-        }
-        out.copy_from_slice(&[u32::from(self.mask)]);
-        Ok(())
+        fill(out, &[u32::from(self.mask)])
     }
 
     fn read_numbers(row: &[u32]) -> Option<Toggles>
         ensures meant { option_map toggles_meaning result ≡ toggles_numbers.read row.now }
         ensures value { result ≡ (if eqb (length row.now) 1 && nat_lt (slice_index row.now 0) (2 ^ 16) then Some (record { mask = slice_index row.now 0 }) else None) }
     {
-        if row.len() != 1 {
+        let &[mask] = row else {
             return None;
-        }
-        if row[0] > 0xffff {
-            return None;
-        }
+        };
         Some(Toggles {
-            mask: row[0] as u16,
+            mask: u16::try_from(mask).ok()?,
         })
     }
 }

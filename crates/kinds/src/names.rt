@@ -1,0 +1,59 @@
+// The kinds by name.
+ghost use Rattle.std.specs.Prelude.{◌≡◌};
+ghost use Rattle.kinds.specs.Names.{kind_word, Named};
+
+use std::error::Error;
+use std::fmt;
+use std::str::FromStr;
+
+#[derive(Clone, Copy, Debug, PartialEq, Eq)]
+pub enum KindName {
+    Wh,
+    Toggles,
+    Dials,
+}
+
+impl KindName {
+    pub fn word(self) -> &'static str
+        ensures { result.now ≡ kind_word self }
+    {
+        match self {
+            KindName::Wh => "wh",
+            KindName::Toggles => "toggles",
+            KindName::Dials => "dials",
+        }
+    }
+}
+
+impl fmt::Display for KindName {
+    fn fmt<W: fmt::Write>(&self, f: &mut fmt::Formatter<W>) -> fmt::Result {
+        f.write_str(self.word())
+    }
+}
+
+// A word that names no kind.
+#[derive(Clone, Copy, Debug, PartialEq, Eq)]
+pub struct UnknownKind;
+
+impl fmt::Display for UnknownKind {
+    fn fmt<W: fmt::Write>(&self, f: &mut fmt::Formatter<W>) -> fmt::Result {
+        f.write_str("unknown kind: write wh, toggles or dials")
+    }
+}
+
+impl Error for UnknownKind {}
+
+impl FromStr for KindName {
+    type Err = UnknownKind;
+
+    ghost from_str_gives = { Named };
+
+    fn from_str(word: &str) -> Result<KindName, UnknownKind> {
+        match word {
+            "wh" => Ok(KindName::Wh),
+            "toggles" => Ok(KindName::Toggles),
+            "dials" => Ok(KindName::Dials),
+            _ => Err(UnknownKind),
+        }
+    }
+}
