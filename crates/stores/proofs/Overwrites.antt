@@ -6,8 +6,6 @@ use Rattle.std.proofs.lemmas.Slice.{between_is, take-put_mid_below, drop-put_mid
 use Rattle.std.proofs.lemmas.Bool.{cases_order}
 use Rattle.kinds.specs.Codec.{Codec}
 use Rattle.kinds.specs.Group.{Group}
-use Rattle.stores.specs.declared.packing.Slot.{Slot}
-use Rattle.stores.specs.declared.packing.Slot.TheVariants.{Kept, Lost}
 use Rattle.stores.specs.declared.store.Mark.TheVariants as mark
 use Rattle.stores.specs.Packing.{packed_record, overwritten, ReadsBack, Packed}
 use Rattle.stores.specs.Stores.{packed_log, width, record_bytes, record_mark, record_reading, mark_with}
@@ -39,9 +37,9 @@ apart i j w less =
     omega arith
 
 module _ {V : Type 0} (G : Group V) (c : Codec 256 V) where
-  pub length_record : (what : Slot V) → length (packed_record c what) ≡ width c
-  length_record (Kept v) = let sized = c.sized v in omega arith
-  length_record Lost = length-replicate (width c) 0
+  pub length_record : (what : Option V) → length (packed_record c what) ≡ width c
+  length_record (Some v) = let sized = c.sized v in omega arith
+  length_record None = length-replicate (width c) 0
 
   module _ (bytes : List ℕ) (slot : ℕ) (row : List ℕ) (long : length row ≡ width c) (fits : slot * width c + width c ≤ length bytes) where
     pub here : record_bytes c (overwritten bytes (slot * width c) row) slot ≡ row
@@ -85,13 +83,13 @@ module _ {V : Type 0} (G : Group V) (c : Codec 256 V) where
   lost_mark (Some v) byte e = ap (mark_with (Some v)) e
 
   -- the record of a slot tells what the slot was packed as
-  tells : (what : Slot V) (bytes : List ℕ) (slot : ℕ) → record_bytes c bytes slot ≡ packed_record c what → Packed (packed_log G c bytes) slot what
-  tells (Kept v) bytes slot e =
+  tells : (what : Option V) (bytes : List ℕ) (slot : ℕ) → record_bytes c bytes slot ≡ packed_record c what → Packed (packed_log G c bytes) slot what
+  tells (Some v) bytes slot e =
       (ap (record_mark c) e ∙ ap (λ o. mark_with o 1) (c.back v), ap (record_reading G c) e ∙ ap (λ o. unwrap_or o G.zero) (c.back v))
-  tells Lost bytes slot e =
+  tells None bytes slot e =
       ap (record_mark c) e ∙ lost_mark _ _ (get_or-replicate (width c) 0 0 0 (omega arith))
 
-  pub reads_back : (bytes : List ℕ) (slot : ℕ) (what : Slot V) → slot < length bytes / width c → ReadsBack (packed_log G c bytes) (packed_log G c (overwritten bytes (slot * width c) (packed_record c what))) slot what
+  pub reads_back : (bytes : List ℕ) (slot : ℕ) (what : Option V) → slot < length bytes / width c → ReadsBack (packed_log G c bytes) (packed_log G c (overwritten bytes (slot * width c) (packed_record c what))) slot what
   reads_back bytes slot what within =
       let row = packed_record c what in
       let long = length_record what in

@@ -4,17 +4,17 @@ use Rattle.std.proofs.lemmas.List.{get_or-take, get_or-drop}
 use Rattle.std.proofs.lemmas.Bool.{cases_lt, cases_Bool, lt-ltb, eqb-true, cond-true, cond-false}
 use Rattle.kinds.specs.Codec.{Codec, Within}
 use Rattle.kinds.specs.Group.{Group}
-use Rattle.stores.specs.declared.packing.Slot.{Slot}
+use Rattle.std.specs.Option.{option_map}
 use Rattle.stores.specs.declared.store.Mark.TheVariants as mark
 use Rattle.stores.specs.declared.store.Reading.{Reading}
 use Rattle.stores.specs.declared.store.Reading.TheVariants.{Value, Missing, Outside}
 use Rattle.stores.specs.Log.{told, answer, valued}
-use Rattle.stores.specs.Packing.{packed_record, overwritten, packed, valued_slot, slot_of, Repacked}
+use Rattle.stores.specs.Packing.{packed_record, overwritten, packed, slot_of, Repacked}
 use Rattle.stores.specs.Stores.{packed_log, width, record_bytes, record_value, record_reading, mark_with}
 use Rattle.stores.proofs.Overwrites.{apart, here, elsewhere, past, length_record, length_overwritten}
 use Rattle.stores.proofs.Records.{record_fits, answer_inside}
 
-pub slot_of_valued : {R V : Type 0} (f : R → V) (r : Reading R) → valued_slot f (slot_of r) ≡ slot_of (valued f r)
+pub slot_of_valued : {R V : Type 0} (f : R → V) (r : Reading R) → option_map f (slot_of r) ≡ slot_of (valued f r)
 slot_of_valued f (Value x) = refl
 slot_of_valued f Missing = refl
 slot_of_valued f Outside = refl
@@ -26,7 +26,7 @@ module _ {V : Type 0} (G : Group V) (c : Codec 256 V) (old before : List ℕ) wh
     pub each : (i : ℕ) → i < n → record_bytes c new i ≡ packed_record c (slot_of (answer (packed_log G c old) i))
     pub rest : drop (length old / width c * width c) new ≡ drop (length old / width c * width c) before
 
-  pub sofar_more : (new : List ℕ) (n : ℕ) (what : Slot V) → Sofar new n → n < length old / width c → what ≡ slot_of (answer (packed_log G c old) n) → Sofar (packed c new n what) (n + 1)
+  pub sofar_more : (new : List ℕ) (n : ℕ) (what : Option V) → Sofar new n → n < length old / width c → what ≡ slot_of (answer (packed_log G c old) n) → Sofar (packed c new n what) (n + 1)
   sofar_more new n what so within is =
       let row = packed_record c what in
       let same = length_record G c what in

@@ -1,12 +1,14 @@
 -- The sum of the readings of a range of slots, and what adding them up answers. Assumes nothing.
-use Rattle.std.specs.Prelude.{◌≡◌, ℕ, zero, suc, ◌+◌, ◌-◌, ◌<◌, ◌≤◌}
+use Rattle.std.specs.Prelude.{◌≡◌, ℕ, zero, suc, ◌+◌, ◌-◌, ◌<◌, ◌≤◌, Ok, Err, Result}
 use Rattle.kinds.specs.Group.{Group}
 use Rattle.stores.specs.declared.store.Mark.{Mark}
 use Rattle.stores.specs.declared.store.Mark.TheVariants as mark
 use Rattle.stores.specs.declared.sums.RangeFault.{RangeFault}
 use Rattle.stores.specs.declared.sums.RangeFault.TheVariants.{BeyondEnd, Empty}
-use Rattle.stores.specs.declared.sums.Total.{Total}
-use Rattle.stores.specs.declared.sums.Total.TheVariants.{Sum, Lost, Refused}
+use Rattle.stores.specs.declared.store.Reading.{Reading}
+use Rattle.stores.specs.declared.store.Reading.TheVariants.{Value, Missing, Outside}
+use Rattle.stores.specs.declared.sums.SumFault.{SumFault}
+use Rattle.stores.specs.declared.sums.SumFault.TheVariants.{Lost, Refused}
 use Rattle.stores.specs.Log.{Log}
 
 -- the readings of so many slots from low on, added up
@@ -44,13 +46,18 @@ Faulty log low high BeyondEnd = log.slots < high
 Faulty log low high Empty = (high ≤ log.slots) × (high ≤ low)
 
 -- what adding up a range answers: the sum where every slot is kept, else the first lost slot
-abbrev pub Answers : {V : Type 0} → Group V → Log V → ℕ → ℕ → Total V → Type 0
-Answers G log low high (Sum v) = Range log low high × AllKept log.mark low high × (v ≡ range_sum G log.reading low high)
-Answers G log low high (Lost slot) = Range log low high × LowestLost log.mark low high slot
-Answers G log low high (Refused fault) = Faulty log low high fault
+abbrev pub Answers : {V : Type 0} → Group V → Log V → ℕ → ℕ → Result V SumFault → Type 0
+Answers G log low high (Ok v) = Range log low high × AllKept log.mark low high × (v ≡ range_sum G log.reading low high)
+Answers G log low high (Err (Lost slot)) = Range log low high × LowestLost log.mark low high slot
+Answers G log low high (Err (Refused fault)) = Faulty log low high fault
 
 -- the same answer, with the value that the sum means
-abbrev pub valued_total : {R V : Type 0} → (R → V) → Total R → Total V
-valued_total f (Sum x) = Sum (f x)
-valued_total f (Lost slot) = Lost slot
-valued_total f (Refused fault) = Refused fault
+abbrev pub valued_sum : {R V : Type 0} → (R → V) → Result R SumFault → Result V SumFault
+valued_sum f (Ok x) = Ok (f x)
+valued_sum f (Err fault) = Err fault
+
+-- what a slot adds to a sum, or the fault of a range that has it
+abbrev pub kept_at : {R : Type 0} → ℕ → Reading R → Result R SumFault
+kept_at slot (Value x) = Ok x
+kept_at slot Missing = Err (Lost slot)
+kept_at slot Outside = Err (Refused BeyondEnd)

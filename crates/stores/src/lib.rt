@@ -12,9 +12,9 @@ mod window;
 
 pub use lists::{Lists, list};
 pub use make::windowed;
-pub use packed::Packed;
-pub use packing::{BeyondBytes, Slot, pack, repack};
+pub use packed::{Packed, width};
+pub use packing::{BeyondBytes, pack, repack};
 pub use plain::Plain;
 pub use store::{Mark, Reading, Store};
-pub use sums::{RangeFault, Total, sum};
+pub use sums::{RangeFault, SumFault, sum};
 pub use window::Window;

@@ -1,5 +1,5 @@
 // A store's slots as two lists of their own: what a plain store is made of.
-ghost use Rattle.std.specs.Prelude.{◌≡◌, cond, IfOk};
+ghost use Rattle.std.specs.Prelude.{◌≡◌, [], ◌∷◌, ◌++◌, IfOk, OnOk, OnErr};
 ghost use Rattle.stores.specs.Log.{valued, told, mark_of, meant, kept_or_missing, Alike};
 ghost use Rattle.stores.specs.Stores.{plain_log};
 
@@ -15,6 +15,29 @@ pub struct Lists<K> {
 }
 
 impl<K: Kind> Lists<K> {
+    // Lists of no slots.
+    pub fn new(heap: Global) -> Lists<K>
+        ensures values { result.values.items ≡ [] }
+        ensures marks { result.marks.items ≡ [] }
+    {
+        Lists {
+            values: Vec::new(heap),
+            marks: Vec::new(heap),
+        }
+    }
+
+    // One more slot; without the memory for it, all stays as it was.
+    pub fn push(&mut self, value: K, mark: u8) -> Result<(), AllocError>
+        ensures values { OnOk result (self.new.values.items ≡ self.old.values.items ++ value ∷ []) }
+        ensures marks { OnOk result (self.new.marks.items ≡ self.old.marks.items ++ mark ∷ []) }
+        ensures err { OnErr result ((self.new.values.items ≡ self.old.values.items) × (self.new.marks.items ≡ self.old.marks.items)) }
+    {
+        self.values.reserve(1)?;
+        self.marks.push(mark)?;
+        self.values.push(value).unwrap();
+        Ok(())
+    }
+
     // The plain store over the two lists.
     pub fn plain(&self) -> Plain<'_, K>
         ensures values { result.values.now ≡ self.now.values.items }
@@ -38,12 +61,10 @@ fn listed<K: Kind>(reading: Reading<K>) -> (K, u8)
 pub fn list<K: Kind, S: Store<K>>(heap: Global, store: &S) -> Result<Lists<K>, AllocError>
     ensures { IfOk result (λ l. Alike (meant K.Kind.meaning (S.Store.log store.now)) (meant K.Kind.meaning (plain_log (K.Kind.held K.Kind.group.zero) l.values.items l.marks.items))) }
 {
-    let mut values = Vec::new(heap);
-    let mut marks = Vec::new(heap);
+    let mut lists = Lists::new(heap);
     for slot in 0..store.slots() {
         let (value, mark) = listed(store.read(slot));
-        values.push(value)?;
-        marks.push(mark)?;
+        lists.push(value, mark)?;
     }
-    Ok(Lists { values, marks })
+    Ok(lists)
 }

@@ -3,7 +3,7 @@ ghost use Rattle.std.specs.Prelude.{◌≡◌, ◌+◌, ◌*◌, ◌/◌, ◌<�
 ghost use Rattle.stores.specs.Log.{answer, told, valued, meant};
 ghost use Rattle.stores.specs.Stores.{packed_log, width, record_mark, record_reading};
 
-use crate::store::{Reading, Store};
+use crate::store::{Mark, Reading, Store};
 use kinds::Kind;
 use std::marker::PhantomData;
 
@@ -13,12 +13,20 @@ pub struct Packed<'a, K> {
     pub(crate) kind: PhantomData<K>,
 }
 
-// Where the record of a slot begins, if it lies whole within `len` bytes.
-pub(crate) fn record_at(len: usize, size: u8, slot: usize) -> Option<usize>
-    ensures value { result ≡ (if nat_lt slot (len / (1 + size)) then Some (slot * (1 + size)) else None) }
-    ensures within { MatchOption result (len / (1 + size) ≤ slot) (λ at. (at + (1 + size) ≤ len) × (slot < len / (1 + size))) }
+// How many bytes a record has: a mark byte and the value's.
+pub fn width<K: Kind>() -> usize
+    ensures value { result ≡ width K.Kind.bytes }
+    ensures some { 0 < result }
 {
-    let width = 1 + usize::from(size);
+    1 + usize::from(K::BYTES)
+}
+
+// Where the record of a slot begins, if it lies whole within `len` bytes.
+pub(crate) fn record_at<K: Kind>(len: usize, slot: usize) -> Option<usize>
+    ensures value { result ≡ (if nat_lt slot (len / width K.Kind.bytes) then Some (slot * width K.Kind.bytes) else None) }
+    ensures within { MatchOption result (len / width K.Kind.bytes ≤ slot) (λ at. (at + width K.Kind.bytes ≤ len) × (slot < len / width K.Kind.bytes)) }
+{
+    let width = width::<K>();
     if slot >= len / width {
         return None;
     }
@@ -29,17 +37,13 @@ pub(crate) fn record_at(len: usize, size: u8, slot: usize) -> Option<usize>
 fn read_record<K: Kind>(row: &[u8]) -> Reading<K>
     ensures { valued K.Kind.meaning result ≡ told (record_mark K.Kind.bytes row.now) (record_reading K.Kind.group K.Kind.bytes row.now) }
 {
-    if row.is_empty() {
-        return Reading::Missing;
-    }
-    let Some(value) = K::read_bytes(&row[1..]) else {
+    let [mark, bytes @ ..] = row else {
         return Reading::Missing;
     };
-    if row[0] == 1 {
-        Reading::Value(value)
-    } else {
-        Reading::Missing
-    }
+    let Some(value) = K::read_bytes(bytes) else {
+        return Reading::Missing;
+    };
+    Reading::told(Mark::from(*mark), value)
 }
 
 impl<K: Kind> Store<K> for Packed<'_, K> {
@@ -48,17 +52,16 @@ impl<K: Kind> Store<K> for Packed<'_, K> {
     fn slots(&self) -> usize
         ensures { result ≡ length self.now.bytes.now / width K.Kind.bytes }
     {
-        self.bytes.len() / (1 + usize::from(K::byte_count()))
+        self.bytes.len() / width::<K>()
     }
 
     fn read(&self, slot: usize) -> Reading<K>
         ensures meant { valued K.Kind.meaning result ≡ answer (meant K.Kind.meaning (meant K.Kind.held (packed_log K.Kind.group K.Kind.bytes self.now.bytes.now))) slot }
         ensures value { valued K.Kind.meaning result ≡ answer (packed_log K.Kind.group K.Kind.bytes self.now.bytes.now) slot }
     {
-        let size = K::byte_count();
-        let Some(at) = record_at(self.bytes.len(), size, slot) else {
+        let Some(at) = record_at::<K>(self.bytes.len(), slot) else {
             return Reading::Outside;
         };
-        read_record(&self.bytes[at..at + 1 + usize::from(size)])
+        read_record(&self.bytes[at..at + width::<K>()])
     }
 }

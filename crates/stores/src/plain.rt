@@ -3,7 +3,7 @@ ghost use Rattle.std.specs.Prelude.{◌≡◌, min, length};
 ghost use Rattle.stores.specs.Log.{answer, valued, meant};
 ghost use Rattle.stores.specs.Stores.{plain_log};
 
-use crate::store::{Reading, Store};
+use crate::store::{Mark, Reading, Store};
 use kinds::Kind;
 
 #[derive(Clone, Copy, Debug)]
@@ -24,13 +24,9 @@ impl<K: Kind> Store<K> for Plain<'_, K> {
     fn read(&self, slot: usize) -> Reading<K>
         ensures { valued K.Kind.meaning result ≡ answer (meant K.Kind.meaning (plain_log (K.Kind.held K.Kind.group.zero) self.now.values.now self.now.marks.now)) slot }
     {
-        if slot >= self.values.len() || slot >= self.marks.len() {
+        let (Some(value), Some(mark)) = (self.values.get(slot), self.marks.get(slot)) else {
             return Reading::Outside;
-        }
-        if self.marks[slot] == 1 {
-            Reading::Value(self.values[slot])
-        } else {
-            Reading::Missing
-        }
+        };
+        Reading::told(Mark::from(*mark), *value)
     }
 }

@@ -1,10 +1,12 @@
 // The sum of a range of slots, read upwards from any store.
 ghost use Rattle.std.specs.Prelude.{◌≡◌};
 ghost use Rattle.stores.specs.Log.{meant};
-ghost use Rattle.stores.specs.Sums.{Answers, valued_total, fault_number};
+ghost use Rattle.stores.specs.Sums.{Answers, valued_sum, fault_number};
 
-use crate::store::{Reading, Store};
+use crate::store::Store;
 use kinds::Kind;
+use std::error::Error;
+use std::fmt;
 
 // Why a range is turned back: its end lies beyond the log's, or it has no slot.
 #[derive(Clone, Copy, Debug, PartialEq, Eq)]
@@ -24,31 +26,48 @@ impl RangeFault {
     }
 }
 
-// What adding up a range answers: the sum of its readings, its first lost slot, or why it is turned back.
-#[derive(Clone, Copy, Debug)]
-pub enum Total<K> {
-    Sum(K),
+impl fmt::Display for RangeFault {
+    fn fmt<W: fmt::Write>(&self, f: &mut fmt::Formatter<W>) -> fmt::Result {
+        f.write_str(match self {
+            RangeFault::BeyondEnd => "ends beyond the last slot",
+            RangeFault::Empty => "has no slot",
+        })
+    }
+}
+
+impl Error for RangeFault {}
+
+// Why a range has no sum: its first lost slot, or that it is turned back.
+#[derive(Clone, Copy, Debug, PartialEq, Eq)]
+pub enum SumFault {
     Lost(usize),
     Refused(RangeFault),
 }
 
-// The slots `low` to `high` - 1, read upwards.
-pub fn sum<K: Kind, S: Store<K>>(store: &S, low: usize, high: usize) -> Total<K>
-    ensures { Answers K.Kind.group (meant K.Kind.meaning (S.Store.log store.now)) low high (valued_total K.Kind.meaning result) }
+impl fmt::Display for SumFault {
+    fn fmt<W: fmt::Write>(&self, f: &mut fmt::Formatter<W>) -> fmt::Result {
+        match self {
+            SumFault::Lost(slot) => write!(f, "lost slot {slot}"),
+            SumFault::Refused(fault) => write!(f, "refused {}: {fault}", fault.number()),
+        }
+    }
+}
+
+impl Error for SumFault {}
+
+// The sum of the slots `low` to `high` - 1, read upwards.
+pub fn sum<K: Kind, S: Store<K>>(store: &S, low: usize, high: usize) -> Result<K, SumFault>
+    ensures { Answers K.Kind.group (meant K.Kind.meaning (S.Store.log store.now)) low high (valued_sum K.Kind.meaning result) }
 {
     if high > store.slots() {
-        return Total::Refused(RangeFault::BeyondEnd);
+        return Err(SumFault::Refused(RangeFault::BeyondEnd));
     }
     if low >= high {
-        return Total::Refused(RangeFault::Empty);
+        return Err(SumFault::Refused(RangeFault::Empty));
     }
     let mut sum = K::zero();
     for slot in low..high {
-        match store.read(slot) {
-            Reading::Value(x) => sum = sum.plus(x),
-            Reading::Missing => return Total::Lost(slot),
-            Reading::Outside => return Total::Refused(RangeFault::BeyondEnd),
-        }
+        sum = sum.plus(store.read(slot).kept(slot)?);
     }
-    Total::Sum(sum)
+    Ok(sum)
 }

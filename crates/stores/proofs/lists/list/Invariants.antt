@@ -6,4 +6,4 @@ use Rattle.stores.proofs.lists.list.Given as goal
 abbrev pub invariant-loop-slot : goal.invariant-loop-slot
 invariant-loop-slot g l =
     let log = meant g.K.Kind.meaning (g.S.Store.log l.store) in
-    (l.slot ≤ log.slots) × Sofar g.K.Kind.meaning (g.K.Kind.held g.K.Kind.group.zero) log (vec_items l.values) (vec_items l.marks) l.slot
+    (l.slot ≤ log.slots) × Sofar g.K.Kind.meaning (g.K.Kind.held g.K.Kind.group.zero) log (vec_items l.lists.values) (vec_items l.lists.marks) l.slot

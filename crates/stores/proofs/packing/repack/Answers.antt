@@ -1,12 +1,10 @@
-use Rattle.std.proofs.Common.{◌≡◌, ◌+◌, ◌/◌, ◌<◌, length, sym, refl, ap, ◌∙◌, subst, arith}
+use Rattle.std.specs.Option.{option_map}
+use Rattle.std.proofs.Common.{◌≡◌, ◌+◌, ◌/◌, ◌<◌, length, sym, ap, ◌∙◌, subst, arith}
 use Rattle.stores.specs.Log.{answer}
-use Rattle.stores.specs.Packing.{slot_of, valued_slot}
+use Rattle.stores.specs.Packing.{slot_of}
 use Rattle.stores.specs.Stores.{packed_log, width}
 use Rattle.stores.proofs.Repacks.{Sofar, sofar_more, slot_of_valued, repacked}
 use Rattle.stores.proofs.packing.repack.Goals as goal
-
-pub loop-slot-init : goal.loop-slot-init
-loop-slot-init g c = (omega arith, record { long = omega arith; each = λ i none. absurd (omega arith); rest = refl })
 
 pub loop-slot-preserved : goal.loop-slot-preserved
 loop-slot-preserved g c =
@@ -18,8 +16,8 @@ loop-slot-preserved g c =
     let read-from = c.new-packed.ensures.bytes in
     let count = ap (λ bytes. length bytes / width codec) read-from in
     let within : slot < length old / width codec = omega (arith, count) in
-    let is : valued_slot meaning c.as_read.result ≡ slot_of (answer (packed_log group codec old) slot) =
-    ap (valued_slot meaning) c.as_read.ensures ∙ slot_of_valued meaning c.read.result ∙ ap slot_of (c.read.ensures.value ∙ ap (λ bytes. answer (packed_log group codec bytes) slot) read-from) in (
+    let is : option_map meaning c.as_read.result ≡ slot_of (answer (packed_log group codec old) slot) =
+    ap (option_map meaning) c.as_read.ensures ∙ slot_of_valued meaning c.read.result ∙ ap slot_of (c.read.ensures.value ∙ ap (λ bytes. answer (packed_log group codec bytes) slot) read-from) in (
       omega arith,
       subst (λ new. Sofar group codec old c.args.to.now new (slot + 1)) (sym c.pack.ensures.after) (sofar_more group codec old c.args.to.now c.loop-slot.to slot _ c.loop-slot.invariant.1 within is),
     )
