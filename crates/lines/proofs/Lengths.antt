@@ -13,10 +13,11 @@ use Rattle.links.specs.Rings.{new_with, new_steps}
 use Rattle.ledger.specs.declared.answer.Counts.{Counts}
 use Rattle.ledger.specs.declared.answer.Trial.{Trial}
 use Rattle.ledger.specs.Answers.{number}
-use Rattle.lines.specs.declared.words.KindName.{KindName}
+use Rattle.kinds.specs.declared.names.KindName.{KindName}
+use Rattle.kinds.specs.Names.{kind_word}
 use Rattle.lines.specs.declared.words.Layer.{Layer}
 use Rattle.lines.specs.Text.{number_text, form_text}
-use Rattle.lines.specs.Words.{kind_word, layer_word, sign_word, origin_word}
+use Rattle.lines.specs.Words.{layer_word, sign_word, origin_word}
 use Rattle.lines.specs.Lines.{numbers, step_text, pair_text, sum_line, withheld_line, trial_text, Tried, tried_text, in_order, tally_line, closed_line, fault_line}
 use Rattle.lines.specs.Fits.{EndsWithin, Modest, RehearsalsFit}
 

@@ -8,10 +8,11 @@ use Rattle.ledger.specs.declared.answer.Answer.{Answer}
 use Rattle.ledger.specs.declared.answer.Counts.{Counts}
 use Rattle.ledger.specs.declared.answer.Trial.{Trial}
 use Rattle.ledger.specs.Answers.{number}
-use Rattle.lines.specs.declared.words.KindName.{KindName}
+use Rattle.kinds.specs.declared.names.KindName.{KindName}
+use Rattle.kinds.specs.Names.{kind_word}
 use Rattle.lines.specs.declared.words.Layer.{Layer}
 use Rattle.lines.specs.Text.{number_text}
-use Rattle.lines.specs.Words.{kind_word, layer_word, sign_word, origin_word}
+use Rattle.lines.specs.Words.{layer_word, sign_word, origin_word}
 
 -- numbers in base ten, a blank before each
 abbrev pub numbers : List ℕ → List ℕ

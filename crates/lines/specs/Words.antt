@@ -2,13 +2,7 @@
 use Rattle.std.specs.Prelude.{ℕ, List, codes}
 use Rattle.links.specs.declared.step.Sign.{Sign}
 use Rattle.links.specs.declared.step.Origin.{Origin}
-use Rattle.lines.specs.declared.words.KindName.{KindName}
 use Rattle.lines.specs.declared.words.Layer.{Layer}
-
-abbrev pub kind_word : KindName → List ℕ
-kind_word KindName.Wh = codes "wh"
-kind_word KindName.Toggles = codes "toggles"
-kind_word KindName.Dials = codes "dials"
 
 abbrev pub layer_word : Layer → List ℕ
 layer_word Layer.Text = codes "text"

@@ -8,8 +8,7 @@ ghost use Rattle.lines.specs.Fits.{Whole, ModestAnswer};
 use crate::pairs::Pair;
 use crate::piece::{Each, Piece, Text};
 use crate::sums::sum_line;
-use crate::words::KindName;
-use kinds::Kind;
+use kinds::{Kind, KindName};
 use ledger::Answer;
 use links::{Range, Step};
 

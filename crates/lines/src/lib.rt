@@ -21,4 +21,4 @@ pub use numbers::write_number;
 pub use piece::{Digits, Each, Piece, Text, Then};
 pub use steps::{write_chain, write_step};
 pub use trials::{begin_rehearsed, end_rehearsed, write_trial};
-pub use words::{KindName, Layer};
+pub use words::Layer;

@@ -4,8 +4,7 @@ ghost use Rattle.lines.specs.Text.{Wrote};
 ghost use Rattle.lines.specs.Lines.{sum_line};
 
 use crate::piece::{Each, Piece, Text};
-use crate::words::KindName;
-use kinds::Kind;
+use kinds::{Kind, KindName};
 
 // A value has at most 255 numbers, as many as a byte counts.
 pub(crate) fn sum_line<K: Kind>(
@@ -19,7 +18,7 @@ pub(crate) fn sum_line<K: Kind>(
     ensures few { K.Kind.numbers.size ≤ 255 }
 {
     let mut table = [0; 255];
-    let row = &mut table[..usize::from(K::number_count())];
+    let row = &mut table[..usize::from(K::NUMBERS)];
     let _ = value.write_numbers(row);
     Text(b"(sum")
         .then(Each(&[low, high]))

@@ -1,33 +1,16 @@
 // The words that stand in a line for a kind of reading, and for the layer that found a fault.
 ghost use Rattle.std.specs.Prelude.{◌≡◌};
-ghost use Rattle.lines.specs.Words.{kind_word, layer_word};
+ghost use Rattle.kinds.specs.Names.{kind_word};
+ghost use Rattle.lines.specs.Words.{layer_word};
 
 use crate::piece::{Piece, Text};
-
-#[derive(Clone, Copy, Debug, PartialEq, Eq)]
-pub enum KindName {
-    Wh,
-    Toggles,
-    Dials,
-}
-
-impl KindName {
-    pub fn word(self) -> &'static [u8]
-        ensures { result.now ≡ kind_word self }
-    {
-        match self {
-            KindName::Wh => b"wh",
-            KindName::Toggles => b"toggles",
-            KindName::Dials => b"dials",
-        }
-    }
-}
+use kinds::KindName;
 
 impl Piece for KindName {
     ghost text = { kind_word };
 
     fn put(&self, out: &mut [u8]) -> Option<usize> {
-        Text(self.word()).put(out)
+        Text(self.word().as_bytes()).put(out)
     }
 }
 

@@ -10,7 +10,7 @@ use Rattle.ledger.specs.declared.answer.Counts.{Counts}
 use Rattle.ledger.specs.declared.trying.Try.{Try}
 use Rattle.ledger.specs.Rules.{Rule}
 use Rattle.ledger.specs.State.{Queried}
-use Rattle.lines.specs.declared.words.KindName.{KindName}
+use Rattle.kinds.specs.declared.names.KindName.{KindName}
 use Rattle.lines.specs.Lines.{answer_line}
 
 -- the two ends of a try

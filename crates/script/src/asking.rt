@@ -7,9 +7,8 @@ ghost use Rattle.script.specs.Printed.{AskedAndPrinted};
 
 use crate::print::{Answered, print};
 use crate::sink::Sink;
-use kinds::Kind;
+use kinds::{Kind, KindName};
 use ledger::{Amounts, Ledger};
-use lines::KindName;
 use links::Step;
 use rules::Rule;
 use stores::Store;

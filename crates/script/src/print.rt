@@ -6,9 +6,9 @@ ghost use Rattle.lines.specs.Fits.{Whole, ModestAnswer};
 ghost use Rattle.lines.specs.Lines.{answer_line, tally_line, closed_line, fault_line};
 
 use crate::sink::Sink;
-use kinds::Kind;
+use kinds::{Kind, KindName};
 use ledger::{Answer, Counts};
-use lines::{KindName, ScriptFault, answer_line, closed_line, fault_line, tally_line};
+use lines::{ScriptFault, answer_line, closed_line, fault_line, tally_line};
 use links::Step;
 
 // What is printed as one line; the line buffer holds it where it is modest.

@@ -1,9 +1,9 @@
 // The lines of the worked sample, byte for byte.
-use kinds::{Dials, Wh};
+use kinds::{Dials, KindName, Wh};
 use ledger::{Answer, Counts, Fault, Trial};
 use lines::{
-    KindName, Layer, ScriptFault, answer_line, begin_rehearsed, closed_line, end_rehearsed,
-    fault_line, has_room, tally_line, write_number, write_trial,
+    Layer, ScriptFault, answer_line, begin_rehearsed, closed_line, end_rehearsed, fault_line,
+    has_room, tally_line, write_number, write_trial,
 };
 use links::{Origin, Range, Sign, Step};
 

@@ -14,7 +14,7 @@ use kinds::Kind;
 use links::{Boundary, Links, Range as Pair, Step};
 use ranges::Range;
 use rules::Rule;
-use stores::{Store, Total, sum};
+use stores::{Store, SumFault, sum};
 
 // The refusal of a query that would give `pair` away, with its chain in the table: how many steps it has.
 fn withhold(links: &Links, ends: Range<Boundary>, pair: Pair, chain: &mut [Step]) -> usize
@@ -50,12 +50,12 @@ impl<K: Kind> Amounts<'_, K> {
         ensures stays { self.new.distances.table.ghost_name ≡ self.old.distances.table.ghost_name }
     {
         match sum(store, ends.low.index() as usize, ends.high.index() as usize) {
-            Total::Sum(value) => {
+            Ok(value) => {
                 let _ = self.distances.join(links, ends.low, ends.high, value);
                 Answer::Released(value)
             }
-            Total::Lost(slot) => Answer::LostSlot(slot),
-            Total::Refused(_) => unreachable(),
+            Err(SumFault::Lost(slot)) => Answer::LostSlot(slot),
+            Err(SumFault::Refused(_)) => unreachable(),
         }
     }
 

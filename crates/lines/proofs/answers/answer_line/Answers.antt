@@ -3,7 +3,7 @@ use Rattle.kinds.specs.Codec.{Codec}
 use Rattle.links.specs.declared.step.Step.{Step}
 use Rattle.ledger.specs.declared.answer.Answer.{Answer}
 use Rattle.ledger.specs.State.{valued_answer}
-use Rattle.lines.specs.declared.words.KindName.{KindName}
+use Rattle.kinds.specs.declared.names.KindName.{KindName}
 use Rattle.lines.specs.Text.{Wrote, form_text}
 use Rattle.lines.specs.Lines.{answer_line, withheld_line}
 use Rattle.lines.specs.Fits.{Whole, ModestAnswer}
