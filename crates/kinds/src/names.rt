@@ -37,7 +37,7 @@ pub struct UnknownKind;
 
 impl fmt::Display for UnknownKind {
     fn fmt<W: fmt::Write>(&self, f: &mut fmt::Formatter<W>) -> fmt::Result {
-        f.write_str("unknown kind: write wh, toggles or dials")
+        f.write_str("no kind of reading has that name")
     }
 }
 

@@ -6,6 +6,7 @@ ghost use Rattle.stores.specs.Sums.{kept_at};
 
 use crate::sums::{RangeFault, SumFault};
 use kinds::Kind;
+use std::fmt;
 
 #[derive(Clone, Copy, Debug, PartialEq, Eq)]
 pub enum Mark {
@@ -59,6 +60,16 @@ impl<K: Copy> Reading<K> {
             Reading::Value(value) => Ok(value),
             Reading::Missing => Err(SumFault::Lost(slot)),
             Reading::Outside => Err(SumFault::Refused(RangeFault::BeyondEnd)),
+        }
+    }
+}
+
+impl<K: fmt::Display> fmt::Display for Reading<K> {
+    fn fmt<W: fmt::Write>(&self, f: &mut fmt::Formatter<W>) -> fmt::Result {
+        match self {
+            Reading::Value(value) => write!(f, "{value}"),
+            Reading::Missing => f.write_str("lost"),
+            Reading::Outside => f.write_str("outside"),
         }
     }
 }

@@ -1,47 +1,18 @@
 // The lines that say what the flash bytes of a trace hold.
 use crate::compare::difference;
-use crate::request::Stretch;
+use crate::request::{NoStretch, Stretch};
 use kinds::Kind;
 use std::alloc::{AllocError, Global};
-use stores::{Packed, Plain, RangeFault, Reading, Store, Total, Window, list, repack, sum};
+use std::fmt;
+use stores::{Packed, Plain, Reading, Store, SumFault, Window, list, repack, sum, width};
 
-// A value's numbers with a blank between two.
-fn value_text<K: Kind>(heap: Global, value: K) -> Result<String, AllocError> {
-    let mut numbers = vec![in heap; 0u32; usize::from(K::number_count())]?;
-    let _ = value.write_numbers(&mut numbers);
-    let mut text = String::new(heap);
-    for (i, n) in numbers.iter().enumerate() {
-        if i > 0 {
-            text.push(' ')?;
-        }
-        text.push_str(format!(in heap; "{n}")?.as_str())?;
-    }
-    Ok(text)
-}
-
-fn reading_text<K: Kind>(heap: Global, reading: Reading<K>) -> Result<String, AllocError> {
-    match reading {
-        Reading::Value(value) => value_text(heap, value),
-        Reading::Missing => String::from_str(heap, "lost"),
-        Reading::Outside => String::from_str(heap, "outside"),
-    }
-}
-
-fn total_text<K: Kind>(heap: Global, total: Total<K>) -> Result<String, AllocError> {
-    match total {
-        Total::Sum(value) => {
-            let text = value_text(heap, value)?;
-            format!(in heap; "sum {text}")
-        }
-        Total::Lost(slot) => format!(in heap; "lost slot {slot}"),
-        Total::Refused(fault) => {
-            let number = fault.number();
-            let why = match fault {
-                RangeFault::BeyondEnd => "ends beyond the last slot",
-                RangeFault::Empty => "has no slot",
-            };
-            format!(in heap; "refused {number}: {why}")
-        }
+fn sum_text<K: Kind + fmt::Display>(
+    heap: Global,
+    sum: Result<K, SumFault>,
+) -> Result<String, AllocError> {
+    match sum {
+        Ok(value) => format!(in heap; "sum {value}"),
+        Err(fault) => format!(in heap; "{fault}"),
     }
 }
 
@@ -57,55 +28,43 @@ fn difference_text(
 }
 
 // One line for each slot.
-fn slot_lines<K: Kind>(
+fn slot_lines<K: Kind + fmt::Display>(
     heap: Global,
     packed: Packed<'_, K>,
     out: &mut Vec<String>,
 ) -> Result<(), AllocError> {
     for slot in 0..packed.slots() {
-        let text = reading_text(heap, packed.read(slot))?;
-        out.push(format!(in heap; "slot {slot}: {text}")?)?;
+        let reading = packed.read(slot);
+        out.push(format!(in heap; "slot {slot}: {reading}")?)?;
     }
     Ok(())
 }
 
 // What a stretch adds up to in the packed bytes, in the list, and through a window over just its slots.
-fn stretch_lines<K: Kind>(
+fn stretch_lines<K: Kind + fmt::Display>(
     heap: Global,
     packed: Packed<'_, K>,
     plain: Plain<'_, K>,
     text: &str,
     out: &mut Vec<String>,
 ) -> Result<(), AllocError> {
-    let Some(range) = Stretch::read(text) else {
-        out.push(format!(in heap; "stretch {text}: refused: not of the form LOW..HIGH")?)?;
-        return Ok(());
+    let Stretch { low, high } = match text.parse() {
+        Ok(stretch) => stretch,
+        Err(fault) => {
+            let fault: NoStretch = fault;
+            out.push(format!(in heap; "stretch {text}: refused: {fault}")?)?;
+            return Ok(());
+        }
     };
-    let low = range.low;
-    let high = range.high;
-    let total = total_text(heap, sum(&packed, low, high))?;
+    let total = sum_text(heap, sum(&packed, low, high))?;
     out.push(format!(in heap; "stretch {low}..{high}: {total}")?)?;
-    let total = total_text(heap, sum(&plain, low, high))?;
+    let total = sum_text(heap, sum(&plain, low, high))?;
     out.push(format!(in heap; "  as a list: {total}")?)?;
     let length = high.saturating_sub(low);
     let window = Window::new(packed, low, length);
-    let total = total_text(heap, sum(&window, 0, length))?;
+    let total = sum_text(heap, sum(&window, 0, length))?;
     out.push(format!(in heap; "  through a window: {total}")?)?;
     Ok(())
-}
-
-// Whether the bytes of a slot's record are the same in both rows; not where one lacks the record.
-fn same_record(width: usize, slot: usize, a: &[u8], b: &[u8]) -> bool {
-    let Some(from) = slot.checked_mul(width) else {
-        return false;
-    };
-    let Some(to) = from.checked_add(width) else {
-        return false;
-    };
-    if to > a.len() || to > b.len() {
-        return false;
-    }
-    a[from..to] == b[from..to]
 }
 
 // What packing each slot again as it was read gives: kept records with the same bytes, lost ones as zeros.
@@ -117,21 +76,22 @@ fn repacked_line<K: Kind>(
     // every byte begins other than it should end
     let mut again = vec![in heap; 0xffu8; bytes.len()]?;
     let _ = repack::<K>(bytes, &mut again);
-    let zeros = vec![in heap; 0u8; bytes.len()]?;
-    let width = 1 + usize::from(K::byte_count());
     let mut kept: usize = 0;
     let mut same: usize = 0;
     let mut lost: usize = 0;
     let mut zero: usize = 0;
-    for slot in 0..packed.slots() {
+    let records = bytes
+        .chunks_exact(width::<K>())
+        .zip(again.chunks_exact(width::<K>()));
+    for (slot, (before, after)) in records.enumerate() {
         match packed.read(slot) {
             Reading::Value(_) => {
                 kept = kept.saturating_add(1);
-                same = same.saturating_add(usize::from(same_record(width, slot, bytes, &again)));
+                same = same.saturating_add(usize::from(before == after));
             }
             Reading::Missing | Reading::Outside => {
                 lost = lost.saturating_add(1);
-                zero = zero.saturating_add(usize::from(same_record(width, slot, &zeros, &again)));
+                zero = zero.saturating_add(usize::from(after.iter().all(|byte| *byte == 0)));
             }
         }
     }
@@ -141,9 +101,8 @@ fn repacked_line<K: Kind>(
 }
 
 // All lines of a trace: its size, its slots, the same slots as a list and through a window, the stretches, and packing again.
-pub fn lines<K: Kind>(
+pub fn lines<K: Kind + fmt::Display>(
     heap: Global,
-    word: &str,
     bytes: &[u8],
     stretches: &[String],
 ) -> Result<Vec<String>, AllocError> {
@@ -151,9 +110,10 @@ pub fn lines<K: Kind>(
     let packed: Packed<K> = Packed::new(bytes);
     let slots = packed.slots();
     let len = bytes.len();
-    let left = len % (1 + usize::from(K::byte_count()));
+    let left = len % width::<K>();
+    let kind = K::NAME;
     out.push(format!(in heap;
-        "trace {word}: {len} bytes, {slots} slots, {left} bytes left over"
+        "trace {kind}: {len} bytes, {slots} slots, {left} bytes left over"
     )?)?;
     slot_lines(heap, packed, &mut out)?;
     let lists = list(heap, &packed)?;

@@ -7,9 +7,9 @@ mod request;
 
 ghost use Rattle.std.specs.Prelude.{◌≡◌, drop};
 
-use kinds::{Dials, Toggles, Wh};
+use kinds::{Dials, KindName, Toggles, Wh};
 use lines::lines;
-use request::{KindName, MOST, kind_asked, length_asked};
+use request::{MOST, kind_asked, length_asked};
 use std::io::Read;
 use std::{env, io};
 
@@ -24,26 +24,20 @@ fn input(rt: &HostRuntime) -> io::Result<Vec<u8>> {
 fn rest(words: &[String]) -> &[String]
     ensures { result.now ≡ drop 1 words.now }
 {
-    if words.is_empty() {
-        return words;
-    }
-    &words[1..]
+    words.get(1..).unwrap_or(words)
 }
 
 fn run(rt: &HostRuntime) -> anyhow::Result<()> {
     let heap = rt.alloc();
-    let mut words = Vec::new(heap);
-    for word in env::args(rt)?.skip(1) {
-        words.push(word)?;
-    }
+    let words: Vec<String> = env::args(rt)?.skip(1).collect(heap)?;
     let kind = kind_asked(words.first())?;
     let bytes = input(rt)?;
     length_asked(bytes.len())?;
     let stretches = rest(words.as_slice());
     let all = match kind {
-        KindName::Wh => lines::<Wh>(heap, "wh", &bytes, stretches)?,
-        KindName::Toggles => lines::<Toggles>(heap, "toggles", &bytes, stretches)?,
-        KindName::Dials => lines::<Dials>(heap, "dials", &bytes, stretches)?,
+        KindName::Wh => lines::<Wh>(heap, &bytes, stretches)?,
+        KindName::Toggles => lines::<Toggles>(heap, &bytes, stretches)?,
+        KindName::Dials => lines::<Dials>(heap, &bytes, stretches)?,
     };
     for line in all.iter() {
         println!(rt; "{line}")?;

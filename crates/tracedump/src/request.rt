@@ -1,35 +1,15 @@
 // What the program is asked: a kind of reading, and stretches of slots.
 ghost use Rattle.std.specs.Prelude.{◌≡◌, if◌then◌else◌, Ok, Err, string_bytes, nat_eq, nat_le};
 ghost use Rattle.std.specs.Option.{option_map};
-ghost use Rattle.tracedump.specs.Names.{Named, Asked};
+ghost use Rattle.tracedump.specs.Names.{Asked};
 ghost use Rattle.tracedump.specs.declared.request.Refusal.TheVariants.{NoInput, TooLong};
 
-use std::error::Error;
-use std::fmt;
+use kinds::KindName;
+use std::str::FromStr;
+use thiserror::Error;
 
 // A trace has at most 1 MiB: just under six years of quarter hours at five bytes a slot.
 pub const MOST: usize = 1_048_576;
-
-#[derive(Clone, Copy, Debug, PartialEq, Eq)]
-pub enum KindName {
-    Wh,
-    Toggles,
-    Dials,
-}
-
-impl KindName {
-    // The kind with that name.
-    pub fn read(word: &str) -> Option<KindName>
-        ensures { Named word.now result }
-    {
-        match word {
-            "wh" => Some(KindName::Wh),
-            "toggles" => Some(KindName::Toggles),
-            "dials" => Some(KindName::Dials),
-            _ => None,
-        }
-    }
-}
 
 // The slots from `low` up to but not including `high`.
 #[derive(Clone, Copy, Debug, PartialEq, Eq)]
@@ -38,62 +18,42 @@ pub struct Stretch {
     pub high: usize,
 }
 
-impl Stretch {
-    // Reads `LOW..HIGH`.
-    pub fn read(text: &str) -> Option<Stretch> {
-        let (low, high) = text.split_once("..")?;
-        let Ok(low) = low.parse::<usize>() else {
-            return None;
-        };
-        let Ok(high) = high.parse::<usize>() else {
-            return None;
-        };
-        Some(Stretch { low, high })
-    }
-}
+// A word that is no stretch.
+#[derive(Clone, Copy, Debug, PartialEq, Eq, Error)]
+#[error("not of the form LOW..HIGH")]
+pub struct NoStretch;
 
-// Why the program does not look at its input.
-#[derive(Clone, Copy, PartialEq, Eq)]
-pub enum Refusal {
-    NoKind,
-    UnknownKind,
-    NoInput,
-    TooLong,
-}
+impl FromStr for Stretch {
+    type Err = NoStretch;
 
-impl fmt::Display for Refusal {
-    fn fmt<W: fmt::Write>(&self, f: &mut fmt::Formatter<W>) -> fmt::Result {
-        f.write_str(match self {
-            Refusal::NoKind =>
-                "no kind: write tracedump KIND [LOW..HIGH ..], KIND being wh, toggles or dials",
-            Refusal::UnknownKind => "unknown kind: write wh, toggles or dials",
-            Refusal::NoInput => "no input: the flash bytes of a trace come on standard input",
-            Refusal::TooLong => "too long: a trace has at most 1048576 bytes",
+    fn from_str(text: &str) -> Result<Stretch, NoStretch> {
+        let (low, high) = text.split_once("..").ok_or(NoStretch)?;
+        Ok(Stretch {
+            low: low.parse().map_err(|_| NoStretch)?,
+            high: high.parse().map_err(|_| NoStretch)?,
         })
     }
 }
 
-// What `main` prints of an error that it returns: the same line.
-impl fmt::Debug for Refusal {
-    fn fmt<W: fmt::Write>(&self, f: &mut fmt::Formatter<W>) -> fmt::Result {
-        let refusal = *self;
-        write!(f, "{refusal}")
-    }
+// Why the program does not look at its input.
+#[derive(Clone, Copy, Debug, PartialEq, Eq, Error)]
+pub enum Refusal {
+    #[error("no kind: write tracedump KIND [LOW..HIGH ..], KIND being wh, toggles or dials")]
+    NoKind,
+    #[error("unknown kind: write wh, toggles or dials")]
+    UnknownKind,
+    #[error("no input: the flash bytes of a trace come on standard input")]
+    NoInput,
+    #[error("too long: a trace has at most {MOST} bytes")]
+    TooLong,
 }
-
-impl Error for Refusal {}
 
 // The kind that is asked for.
 pub fn kind_asked(word: Option<&String>) -> Result<KindName, Refusal>
     ensures { Asked (option_map (λ w. string_bytes w.now) word.entry) result }
 {
-    let Some(word) = word else {
-        return Err(Refusal::NoKind);
-    };
-    match KindName::read(word.as_str()) {
-        Some(kind) => Ok(kind),
-        None => Err(Refusal::UnknownKind),
-    }
+    let word = word.ok_or(Refusal::NoKind)?;
+    word.as_str().parse().map_err(|_| Refusal::UnknownKind)
 }
 
 // Whether the input's length is one that a trace may have.
