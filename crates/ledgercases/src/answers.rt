@@ -3,6 +3,7 @@ use kinds::Kind;
 use ledger::{Answer, Counts};
 use links::{Origin, Sign, Step};
 use std::alloc::{AllocError, Global};
+use std::fmt;
 
 pub fn counts_text(heap: Global, counts: Counts) -> Result<String, AllocError> {
     let released = counts.released;
@@ -10,17 +11,6 @@ pub fn counts_text(heap: Global, counts: Counts) -> Result<String, AllocError> {
     let lost = counts.lost;
     let malformed = counts.malformed;
     format!(in heap; "{released} {withheld} {lost} {malformed}")
-}
-
-// A value's numbers, each after a blank.
-fn value_text<K: Kind>(heap: Global, value: K) -> Result<String, AllocError> {
-    let mut numbers = vec![in heap; 0u32; usize::from(K::number_count())]?;
-    let _ = value.write_numbers(&mut numbers);
-    let mut text = String::new(heap);
-    for n in numbers.iter() {
-        text.push_str(format!(in heap; " {n}")?.as_str())?;
-    }
-    Ok(text)
 }
 
 fn step_text(heap: Global, step: Step) -> Result<String, AllocError> {
@@ -47,7 +37,7 @@ fn chain_text(heap: Global, steps: &[Step], length: usize) -> Result<String, All
 }
 
 // An answer's line: what came out, a refusal's chain from the table, and the counts after it.
-pub fn answer_line<K: Kind>(
+pub fn answer_line<K: Kind + fmt::Display>(
     heap: Global,
     answer: Answer<K>,
     steps: &[Step],
@@ -55,10 +45,7 @@ pub fn answer_line<K: Kind>(
 ) -> Result<String, AllocError> {
     let counts = counts_text(heap, counts)?;
     match answer {
-        Answer::Released(value) => {
-            let sum = value_text(heap, value)?;
-            format!(in heap; "sum{sum} counts {counts}")
-        }
+        Answer::Released(value) => { format!(in heap; "sum {value} counts {counts}") }
         Answer::Withheld(pair, length) => {
             let low = pair.low;
             let high = pair.high;

@@ -1,7 +1,7 @@
 // All cases of a text, one after another.
 use crate::case::run;
-use crate::order::{KindName, Line, Order, read};
-use kinds::{Dials, Toggles, Wh};
+use crate::order::{Line, Order, read};
+use kinds::{Dials, KindName, Toggles, Wh};
 use std::alloc::{AllocError, Global};
 
 // The kind that the first such order names, watt-hours where there is none.

@@ -1,8 +1,9 @@
 // Readings as a case writes them: numbers as they are held, beyond a dial's ends too.
 use crate::numbers::half;
 use kinds::{Dials, Kind, Toggles, Wh};
+use std::fmt;
 
-pub trait Held: Kind {
+pub trait Held: Kind + fmt::Display {
     // The reading that holds these numbers, where it has as many and they fit.
     fn held(first: u32, second: Option<u32>) -> Option<Self>;
 }

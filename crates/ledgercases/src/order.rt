@@ -1,14 +1,8 @@
 // The lines of the cases: one order on a line, its parts separated by blanks, every number in base ten.
 use crate::numbers::{byte, count, one, two};
+use kinds::KindName;
 use rules::Span;
 use std::alloc::{AllocError, Global};
-
-#[derive(Clone, Copy)]
-pub enum KindName {
-    Wh,
-    Toggles,
-    Dials,
-}
 
 // What a line asks for within its case.
 #[derive(Drop)]
@@ -43,15 +37,6 @@ pub enum Line {
     // `close`: the ledger is closed.
     Close,
     Asked(Order),
-}
-
-fn kind_named(word: &str) -> Option<KindName> {
-    match word {
-        "wh" => Some(KindName::Wh),
-        "toggles" => Some(KindName::Toggles),
-        "dials" => Some(KindName::Dials),
-        _ => None,
-    }
 }
 
 fn slot(numbers: &[u32]) -> Option<Order> {
@@ -139,10 +124,7 @@ fn begun(heap: Global, word: &str, line: &str) -> Result<Option<Order>, AllocErr
         let Some(name) = second(line) else {
             return Ok(None);
         };
-        let Some(kind) = kind_named(name) else {
-            return Ok(None);
-        };
-        return Ok(Some(Order::Kind(kind)));
+        return Ok(name.parse().ok().map(Order::Kind));
     }
     let Some(numbers) = numbers_of(heap, line)? else {
         return Ok(None);

@@ -1,6 +1,7 @@
 // The kinds at their ends: addition, inverses, equality, and rows of a wrong length.
-use kinds::{Dials, Kind, Toggles, Wh};
+use kinds::{Dials, Kind, KindName, Toggles, UnknownKind, Wh};
 use std::process::Abort;
+use std::test::Fail;
 
 #[test]
 fn additions_come_round(rt: HostRuntime) {
@@ -23,7 +24,7 @@ fn additions_come_round(rt: HostRuntime) {
 }
 
 fn cancels<K: Kind>(x: K) -> bool {
-    x.plus(x.inverse()).same(K::zero())
+    x.plus(x.inverse()) == K::zero()
 }
 
 #[test]
@@ -58,13 +59,13 @@ fn numbers_end_at_their_limits(rt: HostRuntime) {
 fn keeps_other_lengths<K: Kind>(rt: &impl Abort, value: K) {
     for len in 0..7usize {
         let mut bytes = [7u8; 6];
-        if len != usize::from(K::byte_count()) {
+        if len != usize::from(K::BYTES) {
             assert!(rt; value.write_bytes(&mut bytes[..len]).is_err());
             assert!(rt; K::read_bytes(&[7u8; 6][..len]).is_none());
         }
         assert_eq!(rt; bytes, [7u8; 6]);
         let mut numbers = [7u32; 6];
-        if len != usize::from(K::number_count()) {
+        if len != usize::from(K::NUMBERS) {
             assert!(rt; value.write_numbers(&mut numbers[..len]).is_err());
             assert!(rt; K::read_numbers(&[7u32; 6][..len]).is_none());
         }
@@ -83,4 +84,34 @@ fn rows_of_another_length_are_turned_back(rt: HostRuntime) {
             starts: 5,
         },
     );
+}
+
+#[test]
+fn values_are_printed_as_their_numbers(rt: HostRuntime) -> Result<(), Fail> {
+    let wh = Wh {
+        amount: 4_294_967_295,
+    };
+    assert_eq!(rt; format!(in rt.alloc(); "{wh}")?.as_str(), "4294967295");
+    let toggles = Toggles { mask: 258 };
+    assert_eq!(rt; format!(in rt.alloc(); "{toggles}")?.as_str(), "258");
+    let dials = Dials {
+        litres: 12_000,
+        starts: 5,
+    };
+    assert_eq!(rt; format!(in rt.alloc(); "{dials}")?.as_str(), "2000 5");
+    Ok(())
+}
+
+#[test]
+fn kinds_are_named_by_their_words(rt: HostRuntime) -> Result<(), Fail> {
+    for (kind, word) in [
+        (Wh::NAME, "wh"),
+        (Toggles::NAME, "toggles"),
+        (Dials::NAME, "dials"),
+    ] {
+        assert_eq!(rt; format!(in rt.alloc(); "{kind}")?.as_str(), word);
+        assert_eq!(rt; word.parse::<KindName>(), Ok(kind));
+    }
+    assert_eq!(rt; "Wh".parse::<KindName>(), Err(UnknownKind));
+    Ok(())
 }

@@ -2,8 +2,6 @@
 #![tactic(auto)]
 
 #[cfg(test)]
-mod answers;
-#[cfg(test)]
 mod kinds_tests;
 #[cfg(test)]
 mod ranges_tests;

@@ -1,8 +1,7 @@
 // Sums of ranges, and all slots of a store listed and packed again.
-use crate::answers::{Outcome, added, told};
 use kinds::Wh;
 use std::test::Fail;
-use stores::{Packed, Plain, Store, list, repack, sum};
+use stores::{Lists, Packed, Plain, RangeFault, Reading, Store, SumFault, list, repack, sum};
 
 #[test]
 fn a_range_has_a_sum_or_a_first_lost_slot(rt: HostRuntime) {
@@ -18,18 +17,54 @@ fn a_range_has_a_sum_or_a_first_lost_slot(rt: HostRuntime) {
     let marks = [1u8, 1, 0, 2, 1];
     let plain = Plain::new(&values, &marks);
     for (low, high, answer) in [
-        (0usize, 2usize, Outcome::Sum(1)),
-        (4, 5, Outcome::Sum(5)),
-        (0, 5, Outcome::Lost(2)),
-        (3, 5, Outcome::Lost(3)),
-        (2, 2, Outcome::Refused(6)),
-        (usize::MAX, 5, Outcome::Refused(6)),
-        (0, 6, Outcome::Refused(5)),
-        (6, 6, Outcome::Refused(5)),
-        (usize::MAX, usize::MAX, Outcome::Refused(5)),
+        (0usize, 2usize, Ok(Wh { amount: 1 })),
+        (4, 5, Ok(Wh { amount: 5 })),
+        (0, 5, Err(SumFault::Lost(2))),
+        (3, 5, Err(SumFault::Lost(3))),
+        (2, 2, Err(SumFault::Refused(RangeFault::Empty))),
+        (usize::MAX, 5, Err(SumFault::Refused(RangeFault::Empty))),
+        (0, 6, Err(SumFault::Refused(RangeFault::BeyondEnd))),
+        (6, 6, Err(SumFault::Refused(RangeFault::BeyondEnd))),
+        (
+            usize::MAX,
+            usize::MAX,
+            Err(SumFault::Refused(RangeFault::BeyondEnd)),
+        ),
     ] {
-        assert_eq!(rt; added(sum(&plain, low, high)), answer);
+        assert_eq!(rt; sum(&plain, low, high), answer);
     }
+    assert_eq!(rt; RangeFault::BeyondEnd.number(), 5);
+    assert_eq!(rt; RangeFault::Empty.number(), 6);
+}
+
+#[test]
+fn faults_are_printed(rt: HostRuntime) -> Result<(), Fail> {
+    for (fault, text) in [
+        (SumFault::Lost(3), "lost slot 3"),
+        (
+            SumFault::Refused(RangeFault::BeyondEnd),
+            "refused 5: ends beyond the last slot",
+        ),
+        (
+            SumFault::Refused(RangeFault::Empty),
+            "refused 6: has no slot",
+        ),
+    ] {
+        assert_eq!(rt; format!(in rt.alloc(); "{fault}")?.as_str(), text);
+    }
+    Ok(())
+}
+
+#[test]
+fn lists_take_slots_one_by_one(rt: HostRuntime) -> Result<(), Fail> {
+    let mut lists = Lists::new(rt.alloc());
+    lists.push(Wh { amount: 5 }, 1)?;
+    lists.push(Wh { amount: 6 }, 2)?;
+    let plain = lists.plain();
+    assert_eq!(rt; plain.slots(), 2);
+    assert_eq!(rt; plain.read(0), Reading::Value(Wh { amount: 5 }));
+    assert_eq!(rt; plain.read(1), Reading::Missing);
+    Ok(())
 }
 
 // Kept 5, lost, kept 7, and a byte left over.
@@ -43,7 +78,7 @@ fn a_list_answers_as_the_store(rt: HostRuntime) -> Result<(), Fail> {
     let plain = lists.plain();
     assert_eq!(rt; plain.slots(), 3);
     for slot in 0..4usize {
-        assert_eq!(rt; told(plain.read(slot)), told(packed.read(slot)));
+        assert_eq!(rt; plain.read(slot), packed.read(slot));
     }
     Ok(())
 }

@@ -1,23 +1,22 @@
 // What the slots of each store answer, and what packing one writes.
-use crate::answers::{Answer, told};
-use kinds::{Dials, Kind, Wh};
+use kinds::{Dials, Wh};
 use std::test::Fail;
-use stores::{Packed, Plain, Reading, Slot, Store, Window, pack};
+use stores::{Packed, Plain, Reading, Store, Window, pack};
 
 #[test]
 fn mark_one_alone_is_kept(rt: HostRuntime) {
     for (mark, answer) in [
-        (1u8, Answer::Amount(5)),
-        (0, Answer::Missing),
-        (2, Answer::Missing),
-        (255, Answer::Missing),
+        (1u8, Reading::Value(Wh { amount: 5 })),
+        (0, Reading::Missing),
+        (2, Reading::Missing),
+        (255, Reading::Missing),
     ] {
         let bytes = [mark, 5, 0, 0, 0];
         let packed: Packed<Wh> = Packed::new(&bytes);
-        assert_eq!(rt; told(packed.read(0)), answer);
+        assert_eq!(rt; packed.read(0), answer);
         let values = [Wh { amount: 5 }];
         let marks = [mark];
-        assert_eq!(rt; told(Plain::new(&values, &marks).read(0)), answer);
+        assert_eq!(rt; Plain::new(&values, &marks).read(0), answer);
     }
 }
 
@@ -28,7 +27,7 @@ fn bytes_left_over_are_no_slot(rt: HostRuntime) {
         assert!(rt; len <= 9);
         let packed: Packed<Wh> = Packed::new(&bytes[..len]);
         assert_eq!(rt; packed.slots(), slots);
-        assert_eq!(rt; told(packed.read(slots)), Answer::Outside);
+        assert_eq!(rt; packed.read(slots), Reading::Outside);
     }
 }
 
@@ -44,12 +43,12 @@ fn dials_beyond_an_end_are_lost(rt: HostRuntime) {
         let [s0, s1] = starts.to_le_bytes();
         let bytes = [1, l0, l1, s0, s1];
         let packed: Packed<Dials> = Packed::new(&bytes);
-        let answer = match packed.read(0) {
-            Reading::Value(_) => Some(true),
-            Reading::Missing => Some(false),
-            Reading::Outside => None,
+        let reading = if kept {
+            Reading::Value(Dials { litres, starts })
+        } else {
+            Reading::Missing
         };
-        assert_eq!(rt; answer, Some(kept));
+        assert_eq!(rt; packed.read(0), reading);
     }
 }
 
@@ -59,10 +58,10 @@ fn plain_has_the_slots_of_the_shorter_list(rt: HostRuntime) {
     let marks = [1u8, 1, 1];
     let short = Plain::new(&values, &marks[..1]);
     assert_eq!(rt; short.slots(), 1);
-    assert_eq!(rt; told(short.read(1)), Answer::Outside);
+    assert_eq!(rt; short.read(1), Reading::Outside);
     let long = Plain::new(&values, &marks);
     assert_eq!(rt; long.slots(), 2);
-    assert_eq!(rt; told(long.read(2)), Answer::Outside);
+    assert_eq!(rt; long.read(2), Reading::Outside);
 }
 
 // Four slots: 10, lost, 12, 13.
@@ -86,8 +85,8 @@ fn windows_reach_no_further_than_the_store(rt: HostRuntime) {
     ] {
         let window = Window::new(packed, start, length);
         assert_eq!(rt; window.slots(), slots);
-        assert_eq!(rt; told(window.read(slots)), Answer::Outside);
-        assert_eq!(rt; told(window.read(usize::MAX)), Answer::Outside);
+        assert_eq!(rt; window.read(slots), Reading::Outside);
+        assert_eq!(rt; window.read(usize::MAX), Reading::Outside);
     }
 }
 
@@ -96,35 +95,35 @@ fn window_over_a_window(rt: HostRuntime) {
     let bytes = FOUR;
     let packed: Packed<Wh> = Packed::new(&bytes);
     let outer = Window::new(packed, 1, 2);
-    assert_eq!(rt; told(outer.read(0)), Answer::Missing);
+    assert_eq!(rt; outer.read(0), Reading::Missing);
     let inner = Window::new(outer, 1, 9);
     assert_eq!(rt; inner.slots(), 1);
-    assert_eq!(rt; told(inner.read(0)), Answer::Amount(12));
-    assert_eq!(rt; told(inner.read(1)), Answer::Outside);
+    assert_eq!(rt; inner.read(0), Reading::Value(Wh { amount: 12 }));
+    assert_eq!(rt; inner.read(1), Reading::Outside);
     let past = Window::new(inner, usize::MAX, usize::MAX);
     assert_eq!(rt; past.slots(), 0);
-    assert_eq!(rt; told(past.read(0)), Answer::Outside);
+    assert_eq!(rt; past.read(0), Reading::Outside);
 }
 
 #[test]
 fn the_largest_slot_is_outside(rt: HostRuntime) {
     let bytes = FOUR;
     let packed: Packed<Wh> = Packed::new(&bytes);
-    assert_eq!(rt; told(packed.read(usize::MAX)), Answer::Outside);
+    assert_eq!(rt; packed.read(usize::MAX), Reading::Outside);
     let values = [Wh { amount: 5 }];
     let marks = [1];
     assert_eq!(rt;
-        told(Plain::new(&values, &marks).read(usize::MAX)),
-        Answer::Outside
+        Plain::new(&values, &marks).read(usize::MAX),
+        Reading::Outside
     );
 }
 
 #[test]
 fn packing_writes_one_record(rt: HostRuntime) {
     let mut bytes = [7u8; 11];
-    assert!(rt; pack(&mut bytes, 1, Slot::Kept(Wh { amount: 258 })).is_ok());
+    assert!(rt; pack(&mut bytes, 1, Some(Wh { amount: 258 })).is_ok());
     assert_eq!(rt; bytes, [7, 7, 7, 7, 7, 1, 2, 1, 0, 0, 7]);
-    assert!(rt; pack::<Wh>(&mut bytes, 0, Slot::Lost).is_ok());
+    assert!(rt; pack::<Wh>(&mut bytes, 0, None).is_ok());
     assert_eq!(rt; bytes, [0, 0, 0, 0, 0, 1, 2, 1, 0, 0, 7]);
 }
 
@@ -135,18 +134,19 @@ fn held_dials_pack_as_what_they_mean(rt: HostRuntime) -> Result<(), Fail> {
         starts: 5,
     };
     let mut bytes = [9u8; 5];
-    assert!(rt; pack(&mut bytes, 0, Slot::Kept(held)).is_ok());
+    assert!(rt; pack(&mut bytes, 0, Some(held)).is_ok());
     assert_eq!(rt; bytes, [1, 208, 7, 5, 0]);
     let packed: Packed<Dials> = Packed::new(&bytes);
     let Reading::Value(back) = packed.read(0) else {
         return Err(Fail::new("not kept"));
     };
     assert_eq!(rt; (back.litres, back.starts), (2_000, 5));
-    assert!(rt;
-        held.same(Dials {
+    assert_eq!(rt;
+        held,
+        Dials {
             litres: 2_000,
             starts: 5,
-        })
+        }
     );
     Ok(())
 }
@@ -156,7 +156,7 @@ fn packing_beyond_the_bytes_is_refused(rt: HostRuntime) -> Result<(), Fail> {
     for (len, slot) in [(9usize, 1usize), (9, 2), (9, usize::MAX), (3, 0), (0, 0)] {
         assert!(rt; len <= 9);
         let mut bytes = [7u8; 9];
-        let Err(beyond) = pack(&mut bytes[..len], slot, Slot::Kept(Wh { amount: 5 })) else {
+        let Err(beyond) = pack(&mut bytes[..len], slot, Some(Wh { amount: 5 })) else {
             return Err(Fail::new("packed"));
         };
         assert_eq!(rt; beyond.number(), 32);
