@@ -1,26 +1,37 @@
-// A listener that keeps the last reply of each sort.
+// A listener that keeps the first eight replies of each sort.
+use arrayvec::ArrayVec;
 use audit::Listener;
 use ledger::{Answer, Counts, Trial};
 use links::Step;
+use std::array;
 
 #[derive(Drop)]
 pub struct Heard<K> {
     pub sum: Option<K>,
-    pub numbers: [u8; 8],
-    pub trials: [u8; 8],
-    pub replies: usize,
-    pub tried: usize,
+    numbers: ArrayVec<u8, 8>,
+    trials: ArrayVec<u8, 8>,
+}
+
+// What is heard of eight, and 0 in place of what is not.
+fn eight(heard: &ArrayVec<u8, 8>) -> [u8; 8] {
+    array::from_fn(|i| heard.get(i).copied().unwrap_or(0))
 }
 
 impl<K: Copy> Heard<K> {
     pub fn nothing() -> Heard<K> {
         Heard {
             sum: None,
-            numbers: [0; 8],
-            trials: [0; 8],
-            replies: 0,
-            tried: 0,
+            numbers: ArrayVec::new(),
+            trials: ArrayVec::new(),
         }
+    }
+
+    pub fn numbers(&self) -> [u8; 8] {
+        eight(&self.numbers)
+    }
+
+    pub fn trials(&self) -> [u8; 8] {
+        eight(&self.trials)
     }
 }
 
@@ -31,18 +42,12 @@ impl<K: Copy> Listener<K> for Heard<K> {
         if let Answer::Released(value) = answer {
             self.sum = Some(*value);
         }
-        if self.replies < 8 {
-            self.numbers[self.replies] = answer.number();
-            self.replies += 1;
-        }
+        let _ = self.numbers.try_push(answer.number());
     }
 
     fn rehearsed(&mut self, trials: &[Trial], _counts: Counts) {
         for trial in trials {
-            if self.tried < 8 {
-                self.trials[self.tried] = trial.number();
-                self.tried += 1;
-            }
+            let _ = self.trials.try_push(trial.number());
         }
     }
 }

@@ -3,16 +3,9 @@ use crate::heard::Heard;
 use audit::{Call, run};
 use kinds::{Dials, Toggles, Wh};
 use ledger::{NewLog, Trial, Try};
-use links::{Origin, Sign, Step};
+use links::Step;
 use rules::{Joined, Short, Span, Spans};
 use stores::{Packed, Plain, windowed};
-
-const UNUSED: Step = Step {
-    low: 0,
-    high: 0,
-    sign: Sign::Plus,
-    origin: Origin::Released,
-};
 
 fn wh(amount: u32) -> Wh {
     Wh { amount }
@@ -69,12 +62,12 @@ fn watt_hours_in_a_plain_store_under_a_short_rule(rt: HostRuntime) {
         &store,
         &Short::new(3),
         &calls,
-        &mut [UNUSED; 1023],
+        &mut [Step::default(); 1023],
         &mut [Trial::Free; 32],
         &mut heard,
     );
-    assert_eq!(rt; heard.numbers, [0, 0, 7, 0, 8, 0, 5, 0]);
-    assert_eq!(rt; (heard.trials[0], heard.trials[1]), (0, 7));
+    assert_eq!(rt; heard.numbers(), [0, 0, 7, 0, 8, 0, 5, 0]);
+    assert_eq!(rt; (heard.trials()[0], heard.trials()[1]), (0, 7));
     assert_eq!(rt; heard.sum.map(|sum| sum.amount), Some(31));
     assert_eq!(rt; (counts.released, counts.withheld), (4, 1));
     assert_eq!(rt; (counts.lost, counts.malformed), (1, 1));
@@ -94,11 +87,11 @@ fn toggles_in_a_packed_store_under_listed_spans(rt: HostRuntime) {
         &store,
         &Spans::new(&spans),
         &calls,
-        &mut [UNUSED; 1023],
+        &mut [Step::default(); 1023],
         &mut [],
         &mut heard,
     );
-    assert_eq!(rt; heard.numbers, [0, 0, 0, 7, 0, 0, 0, 0]);
+    assert_eq!(rt; heard.numbers(), [0, 0, 0, 7, 0, 0, 0, 0]);
     assert_eq!(rt; heard.sum.map(|sum| sum.mask), Some(1));
     assert_eq!(rt; (counts.released, counts.withheld), (3, 1));
 }
@@ -124,11 +117,11 @@ fn dials_through_a_window_under_a_joined_rule(rt: HostRuntime) {
         &store,
         &rule,
         &calls,
-        &mut [UNUSED; 1023],
+        &mut [Step::default(); 1023],
         &mut [],
         &mut heard,
     );
-    assert_eq!(rt; heard.numbers, [0, 7, 7, 0, 0, 0, 0, 0]);
+    assert_eq!(rt; heard.numbers(), [0, 7, 7, 0, 0, 0, 0, 0]);
     assert_eq!(rt; heard.sum.map(|sum| (sum.litres, sum.starts)), Some((0, 1)));
     assert_eq!(rt; (counts.released, counts.withheld), (2, 2));
 }

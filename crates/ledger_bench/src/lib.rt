@@ -3,18 +3,12 @@
 
 use kinds::Wh;
 use ledger::{Amounts, Answer, Ledger, NewLog, open};
-use links::{Origin, Sign, Step};
+use links::Step;
 use rules::{Joined, Rule, Short, Span, Spans};
+use std::array;
 use stores::Plain;
 
 const SLOTS: usize = 1023;
-
-const UNUSED: Step = Step {
-    low: 0,
-    high: 0,
-    sign: Sign::Plus,
-    origin: Origin::Released,
-};
 
 // A number that depends on all that an answer tells.
 fn digest(answer: &Answer<Wh>) -> u32 {
@@ -30,52 +24,44 @@ fn digest(answer: &Answer<Wh>) -> u32 {
     }
 }
 
-// Asks each range, and mixes the answers into `sum`.
-fn ask<R: Rule>(
-    ledger: &mut Ledger,
-    amounts: &mut Amounts<'_, Wh>,
-    store: &Plain<'_, Wh>,
-    rule: &R,
-    ranges: &[u32],
-    chain: &mut [Step],
+// A ledger in use: what its queries are asked with, and the number that all answers are mixed into.
+struct Asked<'a> {
+    ledger: Ledger,
+    amounts: Amounts<'a, Wh>,
+    store: Plain<'a, Wh>,
+    chain: [Step; 1023],
     sum: u32,
-) -> u32 {
-    let mut sum = sum;
-    for i in 0..ranges.len() / 2 {
-        let answer = ledger.query(
-            amounts,
-            store,
-            rule,
-            ranges[2 * i],
-            ranges[2 * i + 1],
-            chain,
-        );
-        sum = sum.wrapping_mul(31).wrapping_add(digest(&answer));
+}
+
+impl Asked<'_> {
+    // Asks each range, and mixes the answers in.
+    fn ask<R: Rule>(&mut self, rule: &R, ranges: &[u32]) {
+        for &[low, high] in ranges.as_chunks::<2>().0 {
+            let answer = self.ledger.query(
+                &mut self.amounts,
+                &self.store,
+                rule,
+                low,
+                high,
+                &mut self.chain,
+            );
+            self.sum = self.sum.wrapping_mul(31).wrapping_add(digest(&answer));
+        }
     }
-    sum
 }
 
 // The readings of the log: any values will do.
-fn readings() -> [Wh; 1023] {
-    let mut values = [Wh { amount: 0 }; 1023];
-    for i in 0..SLOTS {
-        values[i] = Wh {
-            amount: (i as u32).wrapping_mul(2_654_435_761),
-        };
-    }
-    values
+fn readings() -> [Wh; SLOTS] {
+    array::from_fn(|i| Wh {
+        amount: (i as u32).wrapping_mul(2_654_435_761),
+    })
 }
 
 // The first 32 of the listed ranges, and (0, 0) where there are fewer.
 fn listed(ranges: &[u32]) -> [Span; 32] {
     let mut list = [Span { low: 0, high: 0 }; 32];
-    for i in 0..32usize {
-        if 2 * i + 1 < ranges.len() {
-            list[i] = Span {
-                low: ranges[2 * i],
-                high: ranges[2 * i + 1],
-            };
-        }
+    for (span, &[low, high]) in list.iter_mut().zip(ranges.as_chunks::<2>().0) {
+        *span = Span { low, high };
     }
     list
 }
@@ -85,46 +71,30 @@ fn listed(ranges: &[u32]) -> [Span; 32] {
 #[unsafe(no_mangle)]
 pub extern "C" fn ledger_bench(early: &[u32], k: u32, spans: &[u32], late: &[u32]) -> u32 {
     let values = readings();
-    let marks = [1; SLOTS];
-    let store = Plain::new(&values, &marks);
     let mut table = [Wh { amount: 0 }; 1024];
-    let (mut ledger, mut amounts) = open(NewLog::begin(), &mut table);
-    let mut chain = [UNUSED; 1023];
-    let free = Short::new(1);
-    let sum = ask(
-        &mut ledger,
-        &mut amounts,
-        &store,
-        &free,
-        early,
-        &mut chain,
-        0,
-    );
+    let (ledger, amounts) = open(NewLog::begin(), &mut table);
+    let mut asked = Asked {
+        ledger,
+        amounts,
+        store: Plain::new(&values, &[1; SLOTS]),
+        chain: [Step::default(); 1023],
+        sum: 0,
+    };
+    asked.ask(&Short::new(1), early);
     let short = Short::new(k);
-    let sum = if spans.is_empty() {
-        ask(
-            &mut ledger,
-            &mut amounts,
-            &store,
-            &short,
-            late,
-            &mut chain,
-            sum,
-        )
+    if spans.is_empty() {
+        asked.ask(&short, late);
     } else {
         let list = listed(spans);
-        let rule = Joined::new(short, Spans::new(&list));
-        ask(
-            &mut ledger,
-            &mut amounts,
-            &store,
-            &rule,
-            late,
-            &mut chain,
-            sum,
-        )
-    };
+        asked.ask(&Joined::new(short, Spans::new(&list)), late);
+    }
+    let Asked {
+        ledger,
+        amounts,
+        sum,
+        store: _,
+        chain: _,
+    } = asked;
     let _ = amounts.close();
-    let counts = ledger.close();
-    sum.wrapping_mul(31).wrapping_add(counts.total())
+    sum.wrapping_mul(31).wrapping_add(ledger.close().total())
 }

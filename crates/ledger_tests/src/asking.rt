@@ -1,18 +1,11 @@
 // Queries on a fresh ledger of watt-hours, under a rule that protects nothing.
 use kinds::Wh;
 use ledger::{Counts, NewLog, open};
-use links::{Origin, Sign, Step};
+use links::Step;
 use rules::Short;
 use stores::Plain;
 
 pub const READING: Wh = Wh { amount: 7 };
-
-pub const UNUSED: Step = Step {
-    low: 0,
-    high: 0,
-    sign: Sign::Plus,
-    origin: Origin::Released,
-};
 
 // Asks (low, high) so many times, and once more: the number of the last answer, and the counts at closing.
 pub fn asked(

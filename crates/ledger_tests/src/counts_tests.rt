@@ -1,11 +1,12 @@
 // Counts up to their limit: query 65,536 is refused, and counted no more.
-use crate::asking::{READING, UNUSED, asked};
+use crate::asking::{READING, asked};
+use links::Step;
 use stores::Plain;
 
 #[test]
 fn the_last_query_is_counted(rt: HostRuntime) {
     let mut table = [READING; 1024];
-    let mut chain = [UNUSED; 1023];
+    let mut chain = [Step::default(); 1023];
     let values = [READING; 9];
     let marks = [1; 9];
     let store = Plain::new(&values, &marks);
@@ -17,7 +18,7 @@ fn the_last_query_is_counted(rt: HostRuntime) {
 #[test]
 fn one_more_is_refused(rt: HostRuntime) {
     let mut table = [READING; 1024];
-    let mut chain = [UNUSED; 1023];
+    let mut chain = [Step::default(); 1023];
     let values = [READING; 9];
     let marks = [1; 9];
     let store = Plain::new(&values, &marks);

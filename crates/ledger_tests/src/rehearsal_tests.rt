@@ -1,6 +1,7 @@
 // Rehearsals: each try is judged by those found free before it, and afterwards the ledger stands as before.
-use crate::asking::{READING, UNUSED};
+use crate::asking::READING;
 use ledger::{NewLog, Trial, Try, open};
+use links::Step;
 use rules::Short;
 use stores::Plain;
 
@@ -25,7 +26,7 @@ fn named(trial: Trial) -> Option<(u16, u16)> {
 #[test]
 fn tries_are_judged_by_the_free_ones_before(rt: HostRuntime) {
     let mut table = [READING; 1024];
-    let mut chain = [UNUSED; 1023];
+    let mut chain = [Step::default(); 1023];
     let values = [READING; 9];
     let marks = [1; 9];
     let store = Plain::new(&values, &marks);

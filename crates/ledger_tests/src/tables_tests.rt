@@ -1,11 +1,12 @@
 // Logs and tables at their limits.
-use crate::asking::{READING, UNUSED, asked};
+use crate::asking::{READING, asked};
+use links::Step;
 use stores::Plain;
 
 #[test]
 fn the_longest_log_is_answered(rt: HostRuntime) {
     let mut table = [READING; 1024];
-    let mut chain = [UNUSED; 1023];
+    let mut chain = [Step::default(); 1023];
     let values = [READING; 1023];
     let marks = [1; 1023];
     let store = Plain::new(&values, &marks);
@@ -17,7 +18,7 @@ fn the_longest_log_is_answered(rt: HostRuntime) {
 #[test]
 fn a_longer_log_is_refused(rt: HostRuntime) {
     let mut table = [READING; 1024];
-    let mut chain = [UNUSED; 1023];
+    let mut chain = [Step::default(); 1023];
     let values = [READING; 1024];
     let marks = [1; 1024];
     let store = Plain::new(&values, &marks);
@@ -29,7 +30,7 @@ fn a_longer_log_is_refused(rt: HostRuntime) {
 #[test]
 fn few_distances_are_refused(rt: HostRuntime) {
     let mut table = [READING; 1023];
-    let mut chain = [UNUSED; 1023];
+    let mut chain = [Step::default(); 1023];
     let values = [READING; 9];
     let marks = [1; 9];
     let store = Plain::new(&values, &marks);
@@ -40,7 +41,7 @@ fn few_distances_are_refused(rt: HostRuntime) {
 #[test]
 fn few_steps_are_refused(rt: HostRuntime) {
     let mut table = [READING; 1024];
-    let mut chain = [UNUSED; 1022];
+    let mut chain = [Step::default(); 1022];
     let values = [READING; 9];
     let marks = [1; 9];
     let store = Plain::new(&values, &marks);

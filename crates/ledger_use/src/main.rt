@@ -3,19 +3,12 @@
 
 use kinds::Wh;
 use ledger::{Counts, NewLog, open};
-use links::{Origin, Sign, Step};
+use links::Step;
 use rules::Short;
 use std::io;
 use stores::Plain;
 
 const READING: Wh = Wh { amount: 7 };
-
-const UNUSED: Step = Step {
-    low: 0,
-    high: 0,
-    sign: Sign::Plus,
-    origin: Origin::Released,
-};
 
 // Asks for the sum of all nine slots and then for that of the first two, which is protected: the counts at closing.
 fn counted(store: Plain<'_, Wh>, table: &mut [Wh], chain: &mut [Step]) -> Counts {
@@ -33,7 +26,7 @@ fn main(rt: HostRuntime) -> io::Result<()> {
     let values = [READING; 9];
     let marks = [1; 9];
     let mut table = [READING; 1024];
-    let mut chain = [UNUSED; 1023];
+    let mut chain = [Step::default(); 1023];
     let counts = counted(Plain::new(&values, &marks), &mut table, &mut chain);
     let released = counts.released;
     let withheld = counts.withheld;
