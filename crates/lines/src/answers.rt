@@ -8,7 +8,7 @@ ghost use Rattle.lines.specs.Fits.{Whole, ModestAnswer};
 use crate::pairs::Pair;
 use crate::piece::{Each, Piece, Text};
 use crate::sums::sum_line;
-use kinds::{Kind, KindName};
+use kinds::Kind;
 use ledger::Answer;
 use links::{Range, Step};
 
@@ -46,17 +46,16 @@ fn numbered_line(out: &mut [u8], opening: &[u8], low: u32, high: u32, number: u6
 // Writes the line of what a ledger of a kind answered to the query (low, high); `table` has the chain of a withheld one in its first steps.
 pub fn answer_line<K: Kind>(
     out: &mut [u8],
-    kind: KindName,
     low: u32,
     high: u32,
     answer: &Answer<K>,
     table: &[Step],
 ) -> Option<usize>
-    ensures text { Wrote (answer_line kind K.Kind.numbers low high (valued_answer K.Kind.meaning answer.now) table.now) out.old out.new result }
-    ensures whole { ModestAnswer answer.now table.now → Whole (answer_line kind K.Kind.numbers low high (valued_answer K.Kind.meaning answer.now) table.now) out.old result }
+    ensures text { Wrote (answer_line K.Kind.NAME K.Kind.numbers low high (valued_answer K.Kind.meaning answer.now) table.now) out.old out.new result }
+    ensures whole { ModestAnswer answer.now table.now → Whole (answer_line K.Kind.NAME K.Kind.numbers low high (valued_answer K.Kind.meaning answer.now) table.now) out.old result }
 {
     match answer {
-        Answer::Released(value) => sum_line(out, kind, low, high, *value),
+        Answer::Released(value) => sum_line(out, low, high, *value),
         Answer::Withheld(pair, count) => withheld_line(out, low, high, *pair, first(table, *count)),
         Answer::LostSlot(slot) => numbered_line(out, b"(lost", low, high, *slot as u64),
         Answer::Refused(fault) => numbered_line(

@@ -4,17 +4,11 @@ ghost use Rattle.lines.specs.Text.{Wrote};
 ghost use Rattle.lines.specs.Lines.{sum_line};
 
 use crate::piece::{Each, Piece, Text};
-use kinds::{Kind, KindName};
+use kinds::Kind;
 
 // A value has at most 255 numbers, as many as a byte counts.
-pub(crate) fn sum_line<K: Kind>(
-    out: &mut [u8],
-    kind: KindName,
-    low: u32,
-    high: u32,
-    value: K,
-) -> Option<usize>
-    ensures text { Wrote (sum_line kind K.Kind.numbers low high (K.Kind.meaning value)) out.old out.new result }
+pub(crate) fn sum_line<K: Kind>(out: &mut [u8], low: u32, high: u32, value: K) -> Option<usize>
+    ensures text { Wrote (sum_line K.Kind.NAME K.Kind.numbers low high (K.Kind.meaning value)) out.old out.new result }
     ensures few { K.Kind.numbers.size ≤ 255 }
 {
     let mut table = [0; 255];
@@ -23,7 +17,7 @@ pub(crate) fn sum_line<K: Kind>(
     Text(b"(sum")
         .then(Each(&[low, high]))
         .then(Text(b" ("))
-        .then(kind)
+        .then(K::NAME)
         .then(Each(row))
         .then(Text(b"))\n"))
         .put(out)

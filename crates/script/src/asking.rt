@@ -7,7 +7,7 @@ ghost use Rattle.script.specs.Printed.{AskedAndPrinted};
 
 use crate::print::{Answered, print};
 use crate::sink::Sink;
-use kinds::{Kind, KindName};
+use kinds::Kind;
 use ledger::{Amounts, Ledger};
 use links::Step;
 use rules::Rule;
@@ -19,7 +19,6 @@ pub(crate) fn ask<K: Kind, T: Store<K>, R: Rule, S: Sink>(
     store: &T,
     rule: &R,
     steps: &mut [Step],
-    kind: KindName,
     low: u32,
     high: u32,
     line: &mut [u8],
@@ -29,12 +28,11 @@ pub(crate) fn ask<K: Kind, T: Store<K>, R: Rule, S: Sink>(
     requires steps { length steps.old ≡ 1023 }
     requires faithful { TrueTo K.Kind.group (meant K.Kind.meaning (T.Store.log store.now)) (rule_of (R.Rule.protects rule.now) (R.Rule.ordered rule.now)) (releases_of K.Kind.group ledger.old.links (map K.Kind.meaning amounts.old.distances.table.now)) }
     ensures faithful { TrueTo K.Kind.group (meant K.Kind.meaning (T.Store.log store.now)) (rule_of (R.Rule.protects rule.now) (R.Rule.ordered rule.now)) (releases_of K.Kind.group ledger.new.links (map K.Kind.meaning amounts.new.distances.table.now)) }
-    ensures asked { AskedAndPrinted K.Kind.group K.Kind.numbers kind (meant K.Kind.meaning (T.Store.log store.now)) (rule_of (R.Rule.protects rule.now) (R.Rule.ordered rule.now)) S.Sink.puts ledger.old.links ledger.new.links (map K.Kind.meaning amounts.old.distances.table.now) (map K.Kind.meaning amounts.new.distances.table.now) ledger.old.counts ledger.new.counts steps.old steps.new low high sink.old sink.new }
+    ensures asked { AskedAndPrinted K.Kind.group K.Kind.numbers K.Kind.NAME (meant K.Kind.meaning (T.Store.log store.now)) (rule_of (R.Rule.protects rule.now) (R.Rule.ordered rule.now)) S.Sink.puts ledger.old.links ledger.new.links (map K.Kind.meaning amounts.old.distances.table.now) (map K.Kind.meaning amounts.new.distances.table.now) ledger.old.counts ledger.new.counts steps.old steps.new low high sink.old sink.new }
     ensures stays { amounts.new.distances.table.ghost_name ≡ amounts.old.distances.table.ghost_name }
 {
     let answer = ledger.query(amounts, store, rule, low, high, steps);
     let told = Answered {
-        kind,
         low,
         high,
         answer: &answer,

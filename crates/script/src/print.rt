@@ -6,7 +6,7 @@ ghost use Rattle.lines.specs.Fits.{Whole, ModestAnswer};
 ghost use Rattle.lines.specs.Lines.{answer_line, tally_line, closed_line, fault_line};
 
 use crate::sink::Sink;
-use kinds::{Kind, KindName};
+use kinds::Kind;
 use ledger::{Answer, Counts};
 use lines::{ScriptFault, answer_line, closed_line, fault_line, tally_line};
 use links::Step;
@@ -35,7 +35,6 @@ pub(crate) fn print<L: Line, S: Sink>(line: &mut [u8], sink: &mut S, told: &L)
 // What a ledger answered to a query, with the table that has the chain of a withheld one in its first steps.
 #[derive(Clone, Copy)]
 pub(crate) struct Answered<'a, K> {
-    pub(crate) kind: KindName,
     pub(crate) low: u32,
     pub(crate) high: u32,
     pub(crate) answer: &'a Answer<K>,
@@ -43,12 +42,12 @@ pub(crate) struct Answered<'a, K> {
 }
 
 impl<K: Kind> Line for Answered<'_, K> {
-    ghost text = { λ it. answer_line it.kind K.Kind.numbers it.low it.high (valued_answer K.Kind.meaning it.answer.now) it.table.now };
+    ghost text = { λ it. answer_line K.Kind.NAME K.Kind.numbers it.low it.high (valued_answer K.Kind.meaning it.answer.now) it.table.now };
 
     ghost modest = { λ it. ModestAnswer it.answer.now it.table.now };
 
     fn write(&self, out: &mut [u8]) -> Option<usize> {
-        answer_line(out, self.kind, self.low, self.high, self.answer, self.table)
+        answer_line(out, self.low, self.high, self.answer, self.table)
     }
 }
 

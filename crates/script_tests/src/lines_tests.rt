@@ -1,5 +1,5 @@
 // The lines of the worked sample, byte for byte.
-use kinds::{Dials, KindName, Wh};
+use kinds::{Dials, Wh};
 use ledger::{Answer, Counts, Fault, Trial};
 use lines::{
     Layer, ScriptFault, answer_line, begin_rehearsed, closed_line, end_rehearsed, fault_line,
@@ -46,16 +46,16 @@ fn answers_to_queries(rt: HostRuntime) {
         },
     ];
     let sum = Answer::Released(Wh { amount: 13 });
-    let n = answer_line(&mut out, KindName::Wh, 0, 4, &sum, &chain);
+    let n = answer_line(&mut out, 0, 4, &sum, &chain);
     assert_eq!(rt; holds(&out, n, b"(sum 0 4 (wh 13))\n"), true);
     let both = Answer::Released(Dials {
         litres: 10_012,
         starts: 3,
     });
-    let n = answer_line(&mut out, KindName::Dials, 4, 8, &both, &chain);
+    let n = answer_line(&mut out, 4, 8, &both, &chain);
     assert_eq!(rt; holds(&out, n, b"(sum 4 8 (dials 12 3))\n"), true);
     let withheld: Answer<Wh> = Answer::Withheld(Range { low: 0, high: 1 }, 2);
-    let n = answer_line(&mut out, KindName::Wh, 0, 5, &withheld, &chain);
+    let n = answer_line(&mut out, 0, 5, &withheld, &chain);
     assert_eq!(rt;
         holds(
             &out,
@@ -65,10 +65,10 @@ fn answers_to_queries(rt: HostRuntime) {
         true
     );
     let lost: Answer<Wh> = Answer::LostSlot(8);
-    let n = answer_line(&mut out, KindName::Wh, 5, 9, &lost, &chain);
+    let n = answer_line(&mut out, 5, 9, &lost, &chain);
     assert_eq!(rt; holds(&out, n, b"(lost 5 9 8)\n"), true);
     let refused: Answer<Wh> = Answer::Refused(Fault::Beyond);
-    let n = answer_line(&mut out, KindName::Wh, 2, 10, &refused, &chain);
+    let n = answer_line(&mut out, 2, 10, &refused, &chain);
     assert_eq!(rt; holds(&out, n, b"(refused 2 10 5)\n"), true);
 }
 
