@@ -1,61 +1,82 @@
-// The lines that say what a ledger answered.
-use kinds::Kind;
+// The lines that the cases are answered by.
 use ledger::{Answer, Counts};
 use links::{Origin, Sign, Step};
-use std::alloc::{AllocError, Global};
 use std::fmt;
 
-pub fn counts_text(heap: Global, counts: Counts) -> Result<String, AllocError> {
-    let released = counts.released;
-    let withheld = counts.withheld;
-    let lost = counts.lost;
-    let malformed = counts.malformed;
-    format!(in heap; "{released} {withheld} {lost} {malformed}")
-}
+// The four counts in their order.
+#[derive(Clone, Copy)]
+struct CountsText(Counts);
 
-fn step_text(heap: Global, step: Step) -> Result<String, AllocError> {
-    let low = step.low;
-    let high = step.high;
-    let sign = match step.sign {
-        Sign::Plus => "+",
-        Sign::Minus => "-",
-    };
-    let origin = match step.origin {
-        Origin::Released => "old",
-        Origin::New => "new",
-    };
-    format!(in heap; " {sign} {low} {high} {origin}")
-}
-
-// A chain's steps, each after a blank.
-fn chain_text(heap: Global, steps: &[Step], length: usize) -> Result<String, AllocError> {
-    let mut text = String::new(heap);
-    for step in steps.iter().take(length) {
-        text.push_str(step_text(heap, *step)?.as_str())?;
+impl fmt::Display for CountsText {
+    fn fmt<W: fmt::Write>(&self, f: &mut fmt::Formatter<W>) -> fmt::Result {
+        let counts = self.0;
+        write!(
+            f,
+            "{} {} {} {}",
+            counts.released, counts.withheld, counts.lost, counts.malformed
+        )
     }
-    Ok(text)
 }
 
-// An answer's line: what came out, a refusal's chain from the table, and the counts after it.
-pub fn answer_line<K: Kind + fmt::Display>(
-    heap: Global,
-    answer: Answer<K>,
-    steps: &[Step],
-    counts: Counts,
-) -> Result<String, AllocError> {
-    let counts = counts_text(heap, counts)?;
-    match answer {
-        Answer::Released(value) => { format!(in heap; "sum {value} counts {counts}") }
-        Answer::Withheld(pair, length) => {
-            let low = pair.low;
-            let high = pair.high;
-            let chain = chain_text(heap, steps, length)?;
-            format!(in heap; "withheld {low} {high} chain{chain} counts {counts}")
+#[derive(Clone, Copy)]
+struct StepText(Step);
+
+impl fmt::Display for StepText {
+    fn fmt<W: fmt::Write>(&self, f: &mut fmt::Formatter<W>) -> fmt::Result {
+        let step = self.0;
+        let sign = match step.sign {
+            Sign::Plus => "+",
+            Sign::Minus => "-",
+        };
+        let origin = match step.origin {
+            Origin::Released => "old",
+            Origin::New => "new",
+        };
+        write!(f, "{sign} {} {} {origin}", step.low, step.high)
+    }
+}
+
+// What a query is answered: what came out, a refusal's chain from the table, and the counts after it.
+#[derive(Drop)]
+pub struct Answered<'a, K> {
+    pub answer: Answer<K>,
+    pub steps: &'a [Step],
+    pub counts: Counts,
+}
+
+impl<K: fmt::Display> fmt::Display for Answered<'_, K> {
+    fn fmt<W: fmt::Write>(&self, f: &mut fmt::Formatter<W>) -> fmt::Result {
+        match &self.answer {
+            Answer::Released(value) => write!(f, "sum {value}")?,
+            Answer::Withheld(pair, length) => {
+                write!(f, "withheld {} {} chain", pair.low, pair.high)?;
+                for step in self.steps.iter().take(*length) {
+                    write!(f, " {}", StepText(*step))?;
+                }
+            }
+            Answer::LostSlot(slot) => write!(f, "lost {slot}")?,
+            Answer::Refused(fault) => write!(f, "refused {}", fault.number())?,
         }
-        Answer::LostSlot(slot) => format!(in heap; "lost {slot} counts {counts}"),
-        Answer::Refused(fault) => {
-            let number = fault.number();
-            format!(in heap; "refused {number} counts {counts}")
-        }
+        write!(f, " counts {}", CountsText(self.counts))
+    }
+}
+
+// What can't be read.
+#[derive(Drop)]
+pub struct Unread<'a, D>(pub &'a D);
+
+impl<D: fmt::Display> fmt::Display for Unread<'_, D> {
+    fn fmt<W: fmt::Write>(&self, f: &mut fmt::Formatter<W>) -> fmt::Result {
+        write!(f, "unread: {}", self.0)
+    }
+}
+
+// The counts when a ledger is closed.
+#[derive(Clone, Copy)]
+pub struct Closed(pub Counts);
+
+impl fmt::Display for Closed {
+    fn fmt<W: fmt::Write>(&self, f: &mut fmt::Formatter<W>) -> fmt::Result {
+        write!(f, "closed {}", CountsText(self.0))
     }
 }

@@ -1,36 +1,56 @@
 // Readings as a case writes them: numbers as they are held, beyond a dial's ends too.
-use crate::numbers::half;
 use kinds::{Dials, Kind, Toggles, Wh};
 use std::fmt;
 
+// The numbers of a slot, as a line has them.
+#[derive(Clone, Copy)]
+pub struct Numbers {
+    pub first: u32,
+    pub second: Option<u32>,
+}
+
+impl Numbers {
+    // The only number, where there is no second.
+    fn only(self) -> Option<u32> {
+        match self.second {
+            None => Some(self.first),
+            Some(_) => None,
+        }
+    }
+}
+
+impl fmt::Display for Numbers {
+    fn fmt<W: fmt::Write>(&self, f: &mut fmt::Formatter<W>) -> fmt::Result {
+        match self.second {
+            None => write!(f, "{}", self.first),
+            Some(second) => write!(f, "{} {second}", self.first),
+        }
+    }
+}
+
 pub trait Held: Kind + fmt::Display {
     // The reading that holds these numbers, where it has as many and they fit.
-    fn held(first: u32, second: Option<u32>) -> Option<Self>;
+    fn held(numbers: Numbers) -> Option<Self>;
 }
 
 impl Held for Wh {
-    fn held(first: u32, second: Option<u32>) -> Option<Wh> {
-        match second {
-            None => Some(Wh { amount: first }),
-            Some(_) => None,
-        }
+    fn held(numbers: Numbers) -> Option<Wh> {
+        let amount = numbers.only()?;
+        Some(Wh { amount })
     }
 }
 
 impl Held for Toggles {
-    fn held(first: u32, second: Option<u32>) -> Option<Toggles> {
-        match second {
-            None => Some(Toggles { mask: half(first)? }),
-            Some(_) => None,
-        }
+    fn held(numbers: Numbers) -> Option<Toggles> {
+        let mask = u16::try_from(numbers.only()?).ok()?;
+        Some(Toggles { mask })
     }
 }
 
 impl Held for Dials {
-    fn held(first: u32, second: Option<u32>) -> Option<Dials> {
-        Some(Dials {
-            litres: half(first)?,
-            starts: half(second?)?,
-        })
+    fn held(numbers: Numbers) -> Option<Dials> {
+        let litres = u16::try_from(numbers.first).ok()?;
+        let starts = u16::try_from(numbers.second?).ok()?;
+        Some(Dials { litres, starts })
     }
 }

@@ -1,8 +1,32 @@
 // The lines of the cases: one order on a line, its parts separated by blanks, every number in base ten.
-use crate::numbers::{byte, count, one, two};
-use kinds::KindName;
+use crate::held::Numbers;
+use crate::numbers::{count, one, two};
+use kinds::{KindName, UnknownKind};
 use rules::Span;
-use std::alloc::{AllocError, Global};
+use std::alloc::{AllocError, AllocFailed, Global};
+use std::fmt;
+use std::num::{ParseIntError, TryFromIntError};
+
+// One slot to be added: its mark byte, and the numbers of its reading.
+#[derive(Clone, Copy)]
+pub struct Slot {
+    pub mark: u8,
+    pub numbers: Numbers,
+}
+
+impl fmt::Display for Slot {
+    fn fmt<W: fmt::Write>(&self, f: &mut fmt::Formatter<W>) -> fmt::Result {
+        write!(f, "slot {} {}", self.mark, self.numbers)
+    }
+}
+
+// A range to be asked for, as often as the count says, at least once; the last answer is told.
+#[derive(Clone, Copy)]
+pub struct Query {
+    pub count: u32,
+    pub low: u32,
+    pub high: u32,
+}
 
 // What a line asks for within its case.
 #[derive(Drop)]
@@ -18,13 +42,13 @@ pub enum Order {
     // `span LOW HIGH`: one more listed span of the rule.
     Listed(Span),
     // `slot MARK NUMBER..`: one more slot, with one number or two.
-    Slot(u8, u32, Option<u32>),
+    Slot(Slot),
     // `packed BYTE..`: one more slot for each whole packed record.
     Packed(Vec<u8>),
     // `window START LENGTH`: the store becomes this window of itself.
-    Window(u32, u32),
-    // `query LOW HIGH`, or `repeat COUNT LOW HIGH`: a query, as often as the count says; the last one is answered.
-    Query(u32, u32, u32),
+    Window { start: u32, length: u32 },
+    // `query LOW HIGH`, or `repeat COUNT LOW HIGH`.
+    Query(Query),
     // What can't be read.
     Unread(String),
 }
@@ -39,22 +63,62 @@ pub enum Line {
     Asked(Order),
 }
 
-fn slot(numbers: &[u32]) -> Option<Order> {
-    match numbers {
-        [mark, a] => Some(Order::Slot(byte(*mark)?, *a, None)),
-        [mark, a, b] => Some(Order::Slot(byte(*mark)?, *a, Some(*b))),
-        _ => None,
+// Why no order is made of a line.
+#[derive(Drop)]
+enum Unmade {
+    Unread,
+    OutOfMemory(AllocError),
+}
+
+impl From<AllocError> for Unmade {
+    fn from(fault: AllocError) -> Unmade {
+        Unmade::OutOfMemory(fault)
     }
+}
+
+impl<T: Drop> From<AllocFailed<T>> for Unmade {
+    fn from(fault: AllocFailed<T>) -> Unmade {
+        Unmade::OutOfMemory(AllocError::from(fault))
+    }
+}
+
+impl From<ParseIntError> for Unmade {
+    fn from(_fault: ParseIntError) -> Unmade {
+        Unmade::Unread
+    }
+}
+
+impl From<TryFromIntError> for Unmade {
+    fn from(_fault: TryFromIntError) -> Unmade {
+        Unmade::Unread
+    }
+}
+
+impl From<UnknownKind> for Unmade {
+    fn from(_fault: UnknownKind) -> Unmade {
+        Unmade::Unread
+    }
+}
+
+fn slot_order(numbers: &[u32]) -> Option<Order> {
+    let (mark, first, second) = match numbers {
+        [mark, first] => (*mark, *first, None),
+        [mark, first, second] => (*mark, *first, Some(*second)),
+        _ => return None,
+    };
+    let mark = u8::try_from(mark).ok()?;
+    let numbers = Numbers { first, second };
+    Some(Order::Slot(Slot { mark, numbers }))
 }
 
 fn repeated(numbers: &[u32]) -> Option<Order> {
     match numbers {
-        [count, low, high] => {
-            if *count == 0 {
-                return None;
-            }
-            Some(Order::Query(*count, *low, *high))
-        }
+        [0, _, _] => None,
+        [count, low, high] => Some(Order::Query(Query {
+            count: *count,
+            low: *low,
+            high: *high,
+        })),
         _ => None,
     }
 }
@@ -69,48 +133,42 @@ fn counted(word: &str, numbers: &[u32]) -> Option<Order> {
             let (low, high) = two(numbers)?;
             Some(Order::Listed(Span { low, high }))
         }
-        "slot" => slot(numbers),
+        "slot" => slot_order(numbers),
         "window" => {
             let (start, length) = two(numbers)?;
-            Some(Order::Window(start, length))
+            Some(Order::Window { start, length })
         }
         "query" => {
             let (low, high) = two(numbers)?;
-            Some(Order::Query(1, low, high))
+            let count = 1;
+            Some(Order::Query(Query { count, low, high }))
         }
         "repeat" => repeated(numbers),
         _ => None,
     }
 }
 
-// The numbers of a line after its first word; none where one of them is no number.
-fn numbers_of(heap: Global, line: &str) -> Result<Option<Vec<u32>>, AllocError> {
+// The numbers of a line after its first word.
+fn numbers_of(heap: Global, line: &str) -> Result<Vec<u32>, Unmade> {
     let mut numbers = Vec::new(heap);
     for part in line.split_whitespace().skip(1) {
-        let Ok(number) = part.parse::<u32>() else {
-            return Ok(None);
-        };
-        numbers.push(number)?;
+        numbers.push(part.parse()?)?;
     }
-    Ok(Some(numbers))
+    Ok(numbers)
 }
 
-// The packed bytes of a line; none where a number is no byte.
-fn packed(heap: Global, numbers: &[u32]) -> Result<Option<Order>, AllocError> {
+// The packed bytes of a line.
+fn packed(heap: Global, numbers: &[u32]) -> Result<Order, Unmade> {
     let mut bytes = Vec::new(heap);
     for number in numbers {
-        let Some(byte) = byte(*number) else {
-            return Ok(None);
-        };
-        bytes.push(byte)?;
+        bytes.push(u8::try_from(*number)?)?;
     }
-    Ok(Some(Order::Packed(bytes)))
+    Ok(Order::Packed(bytes))
 }
 
 // The second word of a line, where it has just two.
 fn second(line: &str) -> Option<&str> {
-    let mut words = line.split_whitespace();
-    let _ = words.next()?;
+    let mut words = line.split_whitespace().skip(1);
     let word = words.next()?;
     match words.next() {
         None => Some(word),
@@ -119,20 +177,16 @@ fn second(line: &str) -> Option<&str> {
 }
 
 // The order of a line that begins with this word.
-fn begun(heap: Global, word: &str, line: &str) -> Result<Option<Order>, AllocError> {
+fn begun(heap: Global, word: &str, line: &str) -> Result<Order, Unmade> {
     if word == "kind" {
-        let Some(name) = second(line) else {
-            return Ok(None);
-        };
-        return Ok(name.parse().ok().map(Order::Kind));
+        let name = second(line).ok_or(Unmade::Unread)?;
+        return Ok(Order::Kind(name.parse()?));
     }
-    let Some(numbers) = numbers_of(heap, line)? else {
-        return Ok(None);
-    };
+    let numbers = numbers_of(heap, line)?;
     if word == "packed" {
-        return packed(heap, numbers.as_slice());
+        return packed(heap, &numbers);
     }
-    Ok(counted(word, numbers.as_slice()))
+    counted(word, &numbers).ok_or(Unmade::Unread)
 }
 
 pub fn read(heap: Global, line: &str) -> Result<Line, AllocError> {
@@ -144,8 +198,9 @@ pub fn read(heap: Global, line: &str) -> Result<Line, AllocError> {
         "close" => return Ok(Line::Close),
         _ => {}
     }
-    match begun(heap, word, line)? {
-        Some(order) => Ok(Line::Asked(order)),
-        None => Ok(Line::Asked(Order::Unread(String::from_str(heap, line)?))),
+    match begun(heap, word, line) {
+        Ok(order) => Ok(Line::Asked(order)),
+        Err(Unmade::Unread) => Ok(Line::Asked(Order::Unread(String::from_str(heap, line)?))),
+        Err(Unmade::OutOfMemory(fault)) => Err(fault),
     }
 }
