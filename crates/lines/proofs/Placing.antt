@@ -1,11 +1,12 @@
 -- One text written after another: the second goes into what the first leaves of the buffer.
-use Rattle.std.proofs.Common.{◌≡◌, ℕ, ◌+◌, ◌-◌, ◌<◌, ◌≤◌, leb, List, [], ◌∷◌, ◌++◌, length, get_or, take, drop, Some, None, Option, sym, refl, ap, ◌∙◌, subst, ⊎_elim, arith, length-append, length-drop, take-append-drop}
+use Rattle.std.proofs.Common.{◌≡◌, ℕ, ◌+◌, ◌-◌, ◌<◌, ◌≤◌, leb, List, [], ◌++◌, length, get_or, take, drop, Some, None, Option, sym, refl, ap, ◌∙◌, subst, ⊎_elim, arith, length-append, length-drop, take-append-drop}
 use borrow.Rule.Slice.PartMut.{put_mid}
 use lib.Seq.{take-append-add}
 use Rattle.std.proofs.lemmas.List.{flat_map_more, take_more, append_assoc, append-nil, take_all, take_at, take-append-le, take_rest, drop_all, drop_at, drop-drop}
 use Rattle.std.proofs.lemmas.Bool.{le-leb, lt-leb, leb-true, leb-false, cases_Bool, cond-true, cond-false}
+use Rattle.std.proofs.lemmas.Grind.{flat_map-append}
 use Rattle.std.specs.List.{flat_map}
-use Rattle.lines.specs.Text.{filled, placed, Wrote, number_text, form_text}
+use Rattle.lines.specs.Text.{filled, placed, Wrote}
 use Rattle.lines.specs.Fits.{Whole}
 
 pub filled_some : (t buf : List ℕ) → length t ≤ length buf → filled t buf ≡ Some (length t)
@@ -133,13 +134,9 @@ begun buf = record { value = sym (filled_some [] buf (omega arith)); left = sym 
 pub one_more : {X : Type 0} (f : X → List ℕ) (xs : List X) (i : ℕ) (d : X) → i < length xs → flat_map f (take i xs) ++ f (get_or xs i d) ≡ flat_map f (take (i + 1) xs)
 one_more f xs i d h = flat_map_more f [] (take i xs) (get_or xs i d) ∙ ap (flat_map f) (sym (take_more xs i d h))
 
-joined_append : {X : Type 0} (f : X → List ℕ) (xs ys : List X) → flat_map f (xs ++ ys) ≡ flat_map f xs ++ flat_map f ys
-joined_append f [] ys = refl
-joined_append f (x ∷ xs) ys = ap (λ t. f x ++ t) (joined_append f xs ys) ∙ sym (append_assoc (f x) (flat_map f xs) (flat_map f ys))
-
 -- the texts of the first elements, and of the others
 pub and_others : {X : Type 0} (f : X → List ℕ) (xs : List X) (i : ℕ) → flat_map f (take i xs) ++ flat_map f (drop i xs) ≡ flat_map f xs
-and_others f xs i = sym (joined_append f (take i xs) (drop i xs)) ∙ ap (flat_map f) (take-append-drop i xs)
+and_others f xs i = sym (flat_map-append f (take i xs) (drop i xs)) ∙ ap (flat_map f) (take-append-drop i xs)
 
 -- a turn of a loop that writes one element's text after another's
 pub turned : {X : Type 0} (f : X → List ℕ) (xs : List X) (i : ℕ) (x : X) {buf now rest : List ℕ} {n k : ℕ} → i < length xs → x ≡ get_or xs i x → Wrote (flat_map f (take i xs)) buf now (Some n) → Wrote (f x) (lent now n) rest (Some k) → Wrote (flat_map f (take (i + 1) xs)) buf (put_mid n (length now - n) now rest) (Some (n + k))
@@ -153,10 +150,6 @@ turned_over f xs i x h is none first second =
 -- a loop that came to its end wrote all texts
 pub turned_all : {X : Type 0} (f : X → List ℕ) (xs : List X) (i : ℕ) {buf now : List ℕ} {r : Option ℕ} → length xs ≤ i → Wrote (flat_map f (take i xs)) buf now r → Wrote (flat_map f xs) buf now r
 turned_all f xs i h w = called (ap (flat_map f) (take_all i xs h)) w
-
--- a form after a text
-pub form_after : (t opening : List ℕ) (ns : List ℕ) (closing : List ℕ) → t ++ form_text opening ns closing ≡ t ++ opening ++ flat_map number_text ns ++ closing
-form_after t opening ns closing = sym (append_assoc t (opening ++ flat_map number_text ns) closing) ∙ ap (λ x. x ++ closing) (sym (append_assoc t opening (flat_map number_text ns)))
 
 -- a text of at most 16,384 bytes is written whole where there are so many
 pub whole : {t buf now : List ℕ} {r : Option ℕ} → Wrote t buf now r → length t ≤ 16384 → Whole t buf r

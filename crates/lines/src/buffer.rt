@@ -1,6 +1,9 @@
 // The buffer that a line is made in.
 ghost use Rattle.std.specs.Prelude.{◌≡◌, length, if◌then◌else◌, Ok, Err, nat_lt};
 
+use std::error::Error;
+use std::fmt;
+
 // A buffer of so many bytes holds every line.
 pub const ROOM: usize = 16_384;
 
@@ -15,6 +18,14 @@ impl Short {
         31
     }
 }
+
+impl fmt::Display for Short {
+    fn fmt<W: fmt::Write>(&self, f: &mut fmt::Formatter<W>) -> fmt::Result {
+        f.write_str("the line buffer is too short")
+    }
+}
+
+impl Error for Short {}
 
 // Whether a buffer holds every line; it is left as it is.
 pub fn has_room(buf: &[u8]) -> Result<(), Short>

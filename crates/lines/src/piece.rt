@@ -82,7 +82,7 @@ impl<P: Piece> Piece for Each<'_, P> {
 
 // A number in base ten, with no leading zero.
 #[derive(Clone, Copy)]
-pub struct Digits(pub u64);
+pub(crate) struct Digits(pub(crate) u64);
 
 impl Piece for Digits {
     ghost text = { λ it. decimal it.0 };

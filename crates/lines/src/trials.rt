@@ -1,5 +1,5 @@
 // The line of a rehearsal: an opening, one try after another, and an end.
-ghost use Rattle.std.specs.Prelude.{◌≤◌, length, codes};
+ghost use Rattle.std.specs.Prelude.{◌≤◌, ◌++◌, length, codes};
 ghost use Rattle.lines.specs.Text.{Wrote};
 ghost use Rattle.lines.specs.Lines.{trial_text};
 ghost use Rattle.lines.specs.Fits.{RehearsalsFit};
@@ -8,11 +8,27 @@ use crate::pairs::Pair;
 use crate::piece::{Each, Piece, Text};
 use ledger::Trial;
 
+const OPENING: &[u8] = b"(rehearsed";
+
+const END: &[u8] = b")\n";
+
+// The line, round the pieces of its tries.
+#[derive(Clone, Copy)]
+pub struct Rehearsed<P>(pub P);
+
+impl<P: Piece> Piece for Rehearsed<P> {
+    ghost text = { λ it. codes "(rehearsed" ++ P.Piece.text it.0 ++ codes ")\n" };
+
+    fn put(&self, out: &mut [u8]) -> Option<usize> {
+        Text(OPENING).then(&self.0).then(Text(END)).put(out)
+    }
+}
+
 // Begins the line.
 pub fn begin_rehearsed(out: &mut [u8]) -> Option<usize>
     ensures { Wrote (codes "(rehearsed") out.old out.new result }
 {
-    Text(b"(rehearsed").put(out)
+    Text(OPENING).put(out)
 }
 
 // Writes a try and what was answered, after a blank, into the rest of the line.
@@ -44,5 +60,5 @@ pub fn end_rehearsed(out: &mut [u8]) -> Option<usize>
     ensures text { Wrote (codes ")\n") out.old out.new result }
     ensures whole { RehearsalsFit }
 {
-    Text(b")\n").put(out)
+    Text(END).put(out)
 }

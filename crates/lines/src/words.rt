@@ -5,6 +5,7 @@ ghost use Rattle.lines.specs.Words.{layer_word};
 
 use crate::piece::{Piece, Text};
 use kinds::KindName;
+use std::fmt;
 
 impl Piece for KindName {
     ghost text = { kind_word };
@@ -22,13 +23,19 @@ pub enum Layer {
 }
 
 impl Layer {
-    pub fn word(self) -> &'static [u8]
+    pub fn word(self) -> &'static str
         ensures { result.now ≡ layer_word self }
     {
         match self {
-            Layer::Text => b"text",
-            Layer::Form => b"form",
+            Layer::Text => "text",
+            Layer::Form => "form",
         }
+    }
+}
+
+impl fmt::Display for Layer {
+    fn fmt<W: fmt::Write>(&self, f: &mut fmt::Formatter<W>) -> fmt::Result {
+        f.write_str(self.word())
     }
 }
 
@@ -36,6 +43,6 @@ impl Piece for Layer {
     ghost text = { layer_word };
 
     fn put(&self, out: &mut [u8]) -> Option<usize> {
-        Text(self.word()).put(out)
+        Text(self.word().as_bytes()).put(out)
     }
 }

@@ -8,7 +8,7 @@ ghost use Rattle.script.specs.Printed.{ends_of};
 
 use crate::print::Line;
 use ledger::{Trial, Try};
-use lines::{Piece, Text, write_trial};
+use lines::{Piece, Rehearsed, write_trial};
 
 // Each try with its answer.
 #[derive(Drop)]
@@ -36,6 +36,6 @@ impl<R> Line for Trials<'_, R> {
     ghost modest = { λ it. length it.tries.now ≤ 32 };
 
     fn write(&self, out: &mut [u8]) -> Option<usize> {
-        Text(b"(rehearsed").then(self).then(Text(b")\n")).put(out)
+        Rehearsed(self).put(out)
     }
 }
