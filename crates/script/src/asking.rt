@@ -5,7 +5,7 @@ ghost use Rattle.ledger.specs.State.{rule_of, releases_of};
 ghost use Rattle.ledger.specs.Truth.{TrueTo};
 ghost use Rattle.script.specs.Printed.{AskedAndPrinted};
 
-use crate::print::{Answered, print};
+use crate::print::{Answered, Printer};
 use crate::sink::Sink;
 use kinds::Kind;
 use ledger::{Amounts, Ledger};
@@ -21,15 +21,14 @@ pub(crate) fn ask<K: Kind, T: Store<K>, R: Rule, S: Sink>(
     steps: &mut [Step],
     low: u32,
     high: u32,
-    line: &mut [u8],
-    sink: &mut S,
+    printer: &mut Printer<'_, S>,
 )
-    requires room { 16384 ≤ length line.old }
     requires steps { length steps.old ≡ 1023 }
     requires faithful { TrueTo K.Kind.group (meant K.Kind.meaning (T.Store.log store.now)) (rule_of (R.Rule.protects rule.now) (R.Rule.ordered rule.now)) (releases_of K.Kind.group ledger.old.links (map K.Kind.meaning amounts.old.distances.table.now)) }
     ensures faithful { TrueTo K.Kind.group (meant K.Kind.meaning (T.Store.log store.now)) (rule_of (R.Rule.protects rule.now) (R.Rule.ordered rule.now)) (releases_of K.Kind.group ledger.new.links (map K.Kind.meaning amounts.new.distances.table.now)) }
-    ensures asked { AskedAndPrinted K.Kind.group K.Kind.numbers K.Kind.NAME (meant K.Kind.meaning (T.Store.log store.now)) (rule_of (R.Rule.protects rule.now) (R.Rule.ordered rule.now)) S.Sink.puts ledger.old.links ledger.new.links (map K.Kind.meaning amounts.old.distances.table.now) (map K.Kind.meaning amounts.new.distances.table.now) ledger.old.counts ledger.new.counts steps.old steps.new low high sink.old sink.new }
+    ensures asked { AskedAndPrinted K.Kind.group K.Kind.numbers K.Kind.NAME (meant K.Kind.meaning (T.Store.log store.now)) (rule_of (R.Rule.protects rule.now) (R.Rule.ordered rule.now)) S.Sink.puts ledger.old.links ledger.new.links (map K.Kind.meaning amounts.old.distances.table.now) (map K.Kind.meaning amounts.new.distances.table.now) ledger.old.counts ledger.new.counts steps.old steps.new low high printer.old.sink.now printer.new.sink.now }
     ensures stays { amounts.new.distances.table.ghost_name ≡ amounts.old.distances.table.ghost_name }
+    ensures told { printer.new.sink.ghost_name ≡ printer.old.sink.ghost_name }
 {
     let answer = ledger.query(amounts, store, rule, low, high, steps);
     let told = Answered {
@@ -38,5 +37,5 @@ pub(crate) fn ask<K: Kind, T: Store<K>, R: Rule, S: Sink>(
         answer: &answer,
         table: steps,
     };
-    print(line, sink, &told);
+    printer.print(&told);
 }

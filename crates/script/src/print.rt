@@ -1,5 +1,5 @@
 // One printed line: made in the line buffer, and put into the sink.
-ghost use Rattle.std.specs.Prelude.{ℕ, ◌≤◌, List, length, ⊤};
+ghost use Rattle.std.specs.Prelude.{◌≡◌, ℕ, ◌≤◌, ◌↔◌, List, length, ⊤, IfOk, IsOk};
 ghost use Rattle.ledger.specs.State.{valued_answer};
 ghost use Rattle.lines.specs.Text.{Wrote};
 ghost use Rattle.lines.specs.Fits.{Whole, ModestAnswer};
@@ -8,7 +8,7 @@ ghost use Rattle.lines.specs.Lines.{answer_line, tally_line, closed_line, fault_
 use crate::sink::Sink;
 use kinds::Kind;
 use ledger::{Answer, Counts};
-use lines::{ScriptFault, answer_line, closed_line, fault_line, tally_line};
+use lines::{ScriptFault, Short, answer_line, closed_line, fault_line, has_room, tally_line};
 use links::Step;
 
 // What is printed as one line; the line buffer holds it where it is modest.
@@ -22,13 +22,33 @@ pub(crate) trait Line {
         ensures whole { modest self.now → Whole (text self.now) out.old result };
 }
 
-pub(crate) fn print<L: Line, S: Sink>(line: &mut [u8], sink: &mut S, told: &L)
-    requires room { 16384 ≤ length line.old }
-    requires modest { L.Line.modest told.now }
-    ensures { S.Sink.puts sink.old (L.Line.text told.now) sink.new }
-{
-    if let Some(n) = told.write(line) {
-        sink.put(&line[..n]);
+// The buffer that lines are made in, and where they go.
+#[derive(Drop)]
+pub(crate) struct Printer<'a, S> {
+    line: &'a mut [u8],
+    sink: &'a mut S,
+    ghost room: { 16384 ≤ length line.now },
+}
+
+impl<'a, S: Sink> Printer<'a, S> {
+    // The buffer must have room for every line.
+    pub(crate) fn new(line: &'a mut [u8], sink: &'a mut S) -> Result<Printer<'a, S>, Short>
+        ensures room { IsOk result ↔ (16384 ≤ length line.old) }
+        ensures sink { IfOk result (λ p. p.sink.now ≡ sink.old) }
+        ensures named { IfOk result (λ p. p.sink.ghost_name ≡ sink.entry.ghost_name) }
+    {
+        has_room(line)?;
+        Ok(Printer { line, sink })
+    }
+
+    pub(crate) fn print<L: Line>(&mut self, told: &L)
+        requires { L.Line.modest told.now }
+        ensures put { S.Sink.puts self.old.sink.now (L.Line.text told.now) self.new.sink.now }
+        ensures stays { self.new.sink.ghost_name ≡ self.old.sink.ghost_name }
+    {
+        if let Some(n) = told.write(self.line) {
+            self.sink.put(&self.line[..n]);
+        }
     }
 }
 

@@ -1,8 +1,0 @@
-use Rattle.std.proofs.Common.{ℕ, List, subst}
-use Rattle.script.proofs.Putting.{put_whole}
-use Rattle.script.proofs.print.print.Goals as goal
-
-pub returns-in-Some : goal.returns-in-Some
-returns-in-Some g c =
-    subst (λ (text : List ℕ). g.S.Sink.puts c.args.sink.now text c.put.new.self)
-    (put_whole (g.L.Line.text c.args.told.now) c.args.line.now c.write.new.out c.in-Some.n c.in-Some.ensures.text) c.put.ensures
