@@ -48,32 +48,17 @@ stop_fault (Err g) ls n on r t e f is =
     let first : r ≡ Err g = ap (λ (x : Both). x.0) e in
     let same : g ≡ f = cc in
     λ i. (Err (same i), sym (ap (λ (x : Both). x.1) e) i)
-stop_fault (Ok ts) ls n on r t e f is =
-    let first : r ≡ Ok tt = ap (λ (x : Both). x.0) e in
-    let z : ◌≡◌ {A = ℕ} 0 1 = cc in
-    absurd (omega arith)
+stop_fault (Ok ts) ls n on r t e f is = grind arith
 
 stop_tokens : (m : Result (List Spot) Fault) (ls : List (List ℕ)) (n : ℕ) (on : Result Bool Fault × State) (r : Result (Unit {0}) Fault) (t : State) → ◌≡◌ {A = Both} (r, t) (begun n m ls) → r ≡ Ok tt → (x : Spot) (xs : List Spot) → t.left ≡ x ∷ xs → stopped n m ls on ≡ (Ok true, t)
-stop_tokens (Err g) ls n on r t e is x xs some =
-    let first : r ≡ Err g = ap (λ (x : Both). x.0) e in
-    let z : ◌≡◌ {A = ℕ} 0 1 = cc in
-    absurd (omega arith)
-stop_tokens (Ok []) ls n on r t e is x xs some =
-    let none : t.left ≡ [] = ap (λ (x : Both). x.1.left) e in
-    let z : ◌≡◌ {A = ℕ} 0 1 = cc in
-    absurd (omega arith)
+stop_tokens (Err g) ls n on r t e is x xs some = grind arith
+stop_tokens (Ok []) ls n on r t e is x xs some = grind arith
 stop_tokens (Ok (y ∷ ys)) ls n on r t e is x xs some = λ i. (Ok true, sym (ap (λ (x : Both). x.1) e) i)
 
 stop_none : (m : Result (List Spot) Fault) (ls : List (List ℕ)) (n : ℕ) (on : Result Bool Fault × State) (r : Result (Unit {0}) Fault) (t : State) → ◌≡◌ {A = Both} (r, t) (begun n m ls) → r ≡ Ok tt → t.left ≡ [] → (stopped n m ls on ≡ on) × (t.number ≡ n) × (t.following ≡ ls)
-stop_none (Err g) ls n on r t e is none =
-    let first : r ≡ Err g = ap (λ (x : Both). x.0) e in
-    let z : ◌≡◌ {A = ℕ} 0 1 = cc in
-    absurd (omega arith)
-stop_none (Ok []) ls n on r t e is none = (refl, ap (λ (x : Both). x.1.number) e, ap (λ (x : Both). x.1.following) e)
-stop_none (Ok (y ∷ ys)) ls n on r t e is none =
-    let some : t.left ≡ y ∷ ys = ap (λ (x : Both). x.1.left) e in
-    let z : ◌≡◌ {A = ℕ} 0 1 = cc in
-    absurd (omega arith)
+stop_none (Err g) ls n on r t e is none = grind arith
+stop_none (Ok []) ls n on r t e is none = grind arith
+stop_none (Ok (y ∷ ys)) ls n on r t e is none = grind arith
 
 -- the three ways on from a line that was taken up
 module _ (s t : State) (r : Result (Unit {0}) Fault) (b : Begun s r t) where

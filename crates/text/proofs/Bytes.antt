@@ -1,5 +1,5 @@
 -- Which bytes are of which class. Assumes nothing.
-use Rattle.std.proofs.Common.{◌≡◌, ℕ, true, false, ◌&&◌, eqb, leb, refl, subst, ⊎_elim, arith}
+use Rattle.std.proofs.Common.{◌≡◌, ℕ, true, false, ◌&&◌, eqb, leb, subst, ⊎_elim, arith}
 use Rattle.std.proofs.lemmas.Bool.{cond_both, eqb-true, eqb-false, leb-true, leb-false, and_parts, and_cases}
 use Rattle.std.specs.Int.{IsInRange}
 use Rattle.text.specs.Alphabet.{class}
@@ -33,28 +33,28 @@ known b =
     (eqb-false b 40 n40, eqb-false b 41 n41, eqb-false b 32 n32, without 48 57 b nd, without 97 122 b nl))))))
 
 is_digit : (j : Class) (b : ℕ) → Known j b → IsInRange 48 57 b → j ≡ Digit
-is_digit Open b x h = absurd (omega arith)
-is_digit Close b x h = absurd (omega arith)
-is_digit Blank b x h = absurd (omega arith)
-is_digit Digit b x h = refl
-is_digit Letter b x h = absurd (omega arith)
-is_digit Outside b x h = absurd (x.3 h)
+is_digit Open b x h = grind arith
+is_digit Close b x h = grind arith
+is_digit Blank b x h = grind arith
+is_digit Digit b x h = grind arith
+is_digit Letter b x h = grind arith
+is_digit Outside b x h = grind arith
 
 is_letter : (j : Class) (b : ℕ) → Known j b → IsInRange 97 122 b → j ≡ Letter
-is_letter Open b x h = absurd (omega arith)
-is_letter Close b x h = absurd (omega arith)
-is_letter Blank b x h = absurd (omega arith)
-is_letter Digit b x h = absurd (omega arith)
-is_letter Letter b x h = refl
-is_letter Outside b x h = absurd (x.4 h)
+is_letter Open b x h = grind arith
+is_letter Close b x h = grind arith
+is_letter Blank b x h = grind arith
+is_letter Digit b x h = grind arith
+is_letter Letter b x h = grind arith
+is_letter Outside b x h = grind arith
 
 is_outside : (j : Class) (b : ℕ) → Known j b → Foreign b → j ≡ Outside
-is_outside Open b x h = absurd (h.0 x)
-is_outside Close b x h = absurd (h.1 x)
-is_outside Blank b x h = absurd (h.2 x)
-is_outside Digit b x h = absurd (h.3 x)
-is_outside Letter b x h = absurd (h.4 x)
-is_outside Outside b x h = refl
+is_outside Open b x h = grind arith
+is_outside Close b x h = grind arith
+is_outside Blank b x h = grind arith
+is_outside Digit b x h = grind arith
+is_outside Letter b x h = grind arith
+is_outside Outside b x h = grind arith
 
 pub digit_class : (b : ℕ) → IsInRange 48 57 b → class b ≡ Digit
 digit_class b h = is_digit (class b) b (known b) h

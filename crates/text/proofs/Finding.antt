@@ -1,5 +1,5 @@
 -- How the first token is found among the runs of a line. Assumes nothing.
-use Rattle.std.proofs.Common.{◌≡◌, Bool, true, false, not, List, [], ◌∷◌, Some, None, Option, is_some, sym, refl, ap, ◌∙◌, subst}
+use Rattle.std.proofs.Common.{◌≡◌, Bool, true, false, not, List, [], ◌∷◌, Some, None, Option, is_some, sym, refl, ap, ◌∙◌, subst, arith}
 use Rattle.std.proofs.lemmas.Bool.{both_ways}
 use denote.Param.Members.{Mut}
 use denote.Ref.{Bor}
@@ -26,14 +26,6 @@ blank_taken s t x taken blank = (
   ap (λ p. p.line) taken.place,
 )
 
-flip_false : (b : Bool) → false ≡ not b → b ≡ true
-flip_false true e = refl
-flip_false false e = e
-
-flip_true : (b : Bool) → true ≡ not b → b ≡ false
-flip_true true e = e
-flip_true false e = refl
-
 -- a test for runs that are not of blanks
 abbrev pub TellsBlanks : {F : Type 0} → Mut F (Bor Run × Unit {0}) Bool → F → Type 0
 TellsBlanks {F} g f = (x : Run) (b : Bool) (q : F) → CalledAt g f x b q → (q ≡ f) × (b ≡ not (same x.class Blank))
@@ -42,13 +34,16 @@ pub blanks_taken : {F : Type 0} {g : Mut F (Bor Run × Unit {0}) Bool} (f : F) (
 blanks_taken f [] j s t e folds told = (ap tokens_left e, ap (λ l. l.place.line) (sym e), sym folds)
 blanks_taken {F = F} {g = g} f (x ∷ xs) j s t y folds told =
     let first = told x false folds.0 folds.1 in
-    let one = blank_taken s y.0 x y.1 (same_class _ _ (flip_false _ first.1)) in
+    let blank : same x.class Blank ≡ true = grind (arith, first.1) in
+    let one = blank_taken s y.0 x y.1 (same_class _ _ blank) in
     let others = blanks_taken {F = F} {g = g} f xs j y.0 t y.2 (subst (λ p. FoldsTo (λ p x q. CalledAt g p x false q) p xs j) first.0 folds.2) told in
     (one.0 ∙ others.0, others.1 ∙ one.1, others.2)
 
 pub not_blank : {F : Type 0} {g : Mut F (Bor Run × Unit {0}) Bool} (f : F) (x : Run) (j q : F) → j ≡ f → CalledAt g j x true q → TellsBlanks g f → x.class ≡ Blank → ⊥
 not_blank {g = g} f x j q same_state call told blank =
-    both_ways _ (flip_true _ (told x true q (subst (λ p. CalledAt g p x true q) same_state call)).1) (class_same _ _ blank)
+    let first = told x true q (subst (λ p. CalledAt g p x true q) same_state call) in
+    let other : same x.class Blank ≡ false = grind (arith, first.1) in
+    both_ways _ other (class_same _ _ blank)
 
 -- the tokens at a run that is no blank
 pub token_taken : (s t : Line) (x : Run) → Taken s x t → (x.class ≡ Blank → ⊥) → tokens_left s ≡ onto x.place (symbol_of x.class x.bytes.now) (tokens_left t)

@@ -1,8 +1,8 @@
 -- A line means just the tokens that it spells, and has just the fault that stands in it. Assumes nothing.
-use Rattle.std.proofs.Common.{◌≡◌, ℕ, zero, suc, ◌<◌, List, [], ◌∷◌, ◌++◌, length, None, Ok, Err, sym, refl, ap, ◌∙◌, subst, ⊎_elim, append-nil, arith}
+use Rattle.std.proofs.Common.{◌≡◌, ℕ, List, [], ◌∷◌, ◌++◌, length, None, Ok, Err, sym, refl, ap, ◌∙◌, subst, ⊎_elim, append-nil, arith}
 use Rattle.text.specs.Alphabet.{joins}
 use Rattle.text.specs.Faults.{along}
-use Rattle.text.specs.Judging.{closed, depth_after, ended, judged, sound}
+use Rattle.text.specs.Judging.{closed, depth_after, judged, sound}
 use Rattle.text.specs.Numbers.{number_of}
 use Rattle.text.specs.Runs.{runs}
 use Rattle.text.specs.Spelling.{Spelled, Faulty, AtFault, Grammar}
@@ -16,7 +16,7 @@ use Rattle.text.proofs.Advancing.{kept}
 use Rattle.text.proofs.Bytes.{digit_class, class_known, outside_class}
 use Rattle.text.proofs.Cutting.{runs_alone}
 use Rattle.text.proofs.Decimals.{decimal_number}
-use Rattle.text.proofs.Judged.{onward, judged_first, judged_end}
+use Rattle.text.proofs.Judged.{onward, judged_first, judged_end, left_open}
 use Rattle.text.proofs.Leading.{leads_read, runs_of}
 use Rattle.text.proofs.Outcomes.{outcome, option_ways}
 use Rattle.text.proofs.Tokening.{tokens_none}
@@ -25,10 +25,6 @@ use Rattle.text.proofs.Tokening.{tokens_none}
 run_fault : (q : Place) (d : ℕ) (bs after run : List ℕ) (k : Class) (f : Fault) → runs bs ≡ (k, run) ∷ runs after → depth_after q d k run ≡ Err f → judged q d (runs bs) ≡ Err f
 run_fault q d bs after run k f cut is =
     ap (judged q d) cut ∙ judged_first q d (k, run) (runs after) ∙ ap (λ r. onward r (λ e. judged (along q (length run)) e (runs after))) is
-
-left_open : (q : Place) (d : ℕ) → 0 < d → ended q d ≡ Err (fault.Bracket q)
-left_open q zero h = absurd (omega arith)
-left_open q (suc d) h = refl
 
 -- a fault that stands at a place is the one that is judged
 fault_judged : (f : Fault) (d : ℕ) (q : Place) (rest : List ℕ) → AtFault d q rest f → judged q d (runs rest) ≡ Err f
@@ -75,8 +71,7 @@ means_spelled n bs ts is =
     subst (Spelled n bs) same (h.1, h.2, h.3))
     (λ h.
     let found : Err h.0 ≡ Ok ts = sym (faulty_means n bs h.0 (h.1, h.2, h.3, h.4, h.5, h.6, h.7)) ∙ is in
-    let z : ◌≡◌ {A = ℕ} 0 1 = cc in
-    absurd (omega arith))
+    grind arith)
     (outcome (line_start n) 0 bs)
 
 means_faulty : (n : ℕ) (bs : List ℕ) (f : Fault) → meaning n bs ≡ Err f → Faulty n bs f
@@ -84,8 +79,7 @@ means_faulty n bs f is =
     ⊎_elim
     (λ h.
     let found : Ok h.0 ≡ Err f = sym (spelled_means n bs h.0 (h.1, h.2, h.3)) ∙ is in
-    let z : ◌≡◌ {A = ℕ} 0 1 = cc in
-    absurd (omega arith))
+    grind arith)
     (λ h.
     let found : Err h.0 ≡ Err f = sym (faulty_means n bs h.0 (h.1, h.2, h.3, h.4, h.5, h.6, h.7)) ∙ is in
     let same : h.0 ≡ f = cc in

@@ -1,6 +1,7 @@
 -- Every line is spelled by some tokens or has a fault. Assumes nothing.
 use Rattle.std.proofs.Common.{◌≡◌, ℕ, zero, suc, ◌+◌, ◌<◌, ◌≤◌, ◌⊎◌, List, [], ◌∷◌, ◌++◌, length, get_or, take, drop, replicate, Some, None, Option, sym, refl, ap, ◌∙◌, subst, inl, inr, ⊎_elim, add-one, one-add, arith, take-append-drop}
 use Rattle.std.proofs.lemmas.List.{append_assoc, replicate-append-replicate, length-take-le, length-drop}
+use Rattle.std.proofs.lemmas.Option.{none-some}
 use Rattle.std.proofs.lemmas.Bool.{cases_Bool}
 use Rattle.text.specs.Alphabet.{class, same}
 use Rattle.text.specs.Faults.{along}
@@ -130,9 +131,7 @@ digits_front p d run after some all stops next =
       digits,
       ends,
       λ n small is.
-          let read : None ≡ Some n = sym none ∙ ap number_of is ∙ number_decimal n small in
-          let z : ◌≡◌ {A = ℕ} 0 1 = cc in
-          omega arith,
+          none-some n (sym none ∙ ap number_of is ∙ number_decimal n small),
     ))
     (λ h.
     let is = decimal_number run h.0 some digits h.1 in

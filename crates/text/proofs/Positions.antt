@@ -1,5 +1,6 @@
 -- The first place that passes a test, or the length where none does. Assumes nothing.
-use Rattle.std.proofs.Common.{get_or, ⊎_elim, ◌<◌, ◌≡◌, ℕ, ◌+◌, ◌≤◌, nat_lt, Bool, true, false, cond, not, List, length, Some, None, sym, refl, ◌∙◌, arith}
+use Rattle.std.proofs.Common.{get_or, ⊎_elim, ◌<◌, ◌≡◌, ℕ, ◌+◌, ◌≤◌, nat_lt, Bool, true, false, cond, not, List, length, None, sym, refl, ◌∙◌, arith}
+use Rattle.std.proofs.lemmas.Option.{none-some}
 use Rattle.std.proofs.lemmas.Bool.{cond_both, cond-true, cases_Bool, ltb-false}
 use Rattle.std.proofs.lemmas.List.Recursion.{is_position_or_len}
 use Rattle.std.proofs.lemmas.List.Sums.{prefix_len-le-length, fails_before_first}
@@ -23,6 +24,6 @@ first_failing p xs =
 pub position-None : (p : ℕ → Bool) (xs : List ℕ) → position p xs ≡ None → (i d : ℕ) → i < length xs → p (get_or xs i d) ≡ false
 position-None p xs is i d h =
     ⊎_elim
-    (λ e. let some : Some (position_or_len p xs) ≡ None = sym (cond-true _ _ _ e) ∙ is in let z : ◌≡◌ {A = ℕ} 0 1 = cc in absurd (omega arith))
+    (λ e. absurd (none-some _ (sym is ∙ cond-true _ _ _ e)))
     (λ e. let over = ltb-false _ _ e in fails_before_first p xs i d (omega arith))
     (cases_Bool (nat_lt (position_or_len p xs) (length xs)))

@@ -1,15 +1,10 @@
-use Rattle.std.proofs.Common.{◌≡◌, ℕ, zero, suc, Err, sym, refl, ap, ◌∙◌, arith}
+use Rattle.std.proofs.Common.{Err, sym, ap, ◌∙◌, arith}
 use Rattle.std.proofs.lemmas.Result.{err_from_is_err_and}
 use Rattle.text.specs.Judging.{depth_after, ended, judged}
 use Rattle.text.specs.Runs.{runs}
 use Rattle.text.specs.declared.fault.Fault.TheVariants as fault
-use Rattle.text.specs.declared.fault.Place.{Place}
-use Rattle.text.proofs.Judged.{judged_end, judged_on, judged_stops, cut_length, depth_rises}
+use Rattle.text.proofs.Judged.{judged_end, judged_on, judged_stops, cut_length, depth_rises, left_open}
 use Rattle.text.proofs.judge.judge.Goals as goal
-
-open_ended : (p : Place) (d : ℕ) → (d ≡ 0 → ⊥) → ended p d ≡ Err (fault.Bracket p)
-open_ended p zero n = absurd (n refl)
-open_ended p (suc d) n = refl
 
 pub returns-in_err-depth : goal.returns-in_err-depth
 returns-in_err-depth c =
@@ -41,4 +36,4 @@ returns-else-depth-eq0 c =
     let place = c.loop-run.left.place in
     let end = judged_end place c.loop-run.depth _ c.in_default.ensures.steps.0 in
     ap (λ l. Err (fault.Bracket l.place)) c.in_default.ensures.steps.1
-    ∙ sym (open_ended place c.loop-run.depth c.if-depth-eq0.false) ∙ sym end ∙ c.loop-run.invariant.1
+    ∙ sym (left_open place c.loop-run.depth (omega (arith, c.if-depth-eq0.false))) ∙ sym end ∙ c.loop-run.invariant.1
