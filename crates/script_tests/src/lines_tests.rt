@@ -16,10 +16,7 @@ const COUNTS: Counts = Counts {
 
 // Whether so many bytes of a buffer are this text.
 fn holds(buffer: &[u8], written: Option<usize>, text: &[u8]) -> bool {
-    match written {
-        Some(n) => n == text.len() && buffer.len() >= n && &buffer[0..n] == text,
-        None => false,
-    }
+    written.and_then(|n| buffer.get(..n)) == Some(text)
 }
 
 #[test]
@@ -47,29 +44,28 @@ fn answers_to_queries(rt: HostRuntime) {
     ];
     let sum = Answer::Released(Wh { amount: 13 });
     let n = answer_line(&mut out, 0, 4, &sum, &chain);
-    assert_eq!(rt; holds(&out, n, b"(sum 0 4 (wh 13))\n"), true);
+    assert!(rt; holds(&out, n, b"(sum 0 4 (wh 13))\n"));
     let both = Answer::Released(Dials {
         litres: 10_012,
         starts: 3,
     });
     let n = answer_line(&mut out, 4, 8, &both, &chain);
-    assert_eq!(rt; holds(&out, n, b"(sum 4 8 (dials 12 3))\n"), true);
+    assert!(rt; holds(&out, n, b"(sum 4 8 (dials 12 3))\n"));
     let withheld: Answer<Wh> = Answer::Withheld(Range { low: 0, high: 1 }, 2);
     let n = answer_line(&mut out, 0, 5, &withheld, &chain);
-    assert_eq!(rt;
+    assert!(rt;
         holds(
             &out,
             n,
             b"(withheld 0 5 (range 0 1) (chain (+ 0 5 new) (- 1 5)))\n"
-        ),
-        true
+        )
     );
     let lost: Answer<Wh> = Answer::LostSlot(8);
     let n = answer_line(&mut out, 5, 9, &lost, &chain);
-    assert_eq!(rt; holds(&out, n, b"(lost 5 9 8)\n"), true);
+    assert!(rt; holds(&out, n, b"(lost 5 9 8)\n"));
     let refused: Answer<Wh> = Answer::Refused(Fault::Beyond);
     let n = answer_line(&mut out, 2, 10, &refused, &chain);
-    assert_eq!(rt; holds(&out, n, b"(refused 2 10 5)\n"), true);
+    assert!(rt; holds(&out, n, b"(refused 2 10 5)\n"));
 }
 
 #[test]
@@ -89,13 +85,12 @@ fn answers_to_tries(rt: HostRuntime) {
     if len <= 80 {
         len += end_rehearsed(&mut out[len..]).unwrap_or(80);
     }
-    assert_eq!(rt;
+    assert!(rt;
         holds(
             &out,
             Some(len),
             b"(rehearsed (free 4 8) (withheld 0 5 (range 0 1)) (refused 3 3 6))\n"
-        ),
-        true
+        )
     );
 }
 
@@ -103,9 +98,9 @@ fn answers_to_tries(rt: HostRuntime) {
 fn counts_faults_and_numbers(rt: HostRuntime) {
     let mut out = [0; 40];
     let n = tally_line(&mut out, COUNTS);
-    assert_eq!(rt; holds(&out, n, b"(tally 4 1 1 1)\n"), true);
+    assert!(rt; holds(&out, n, b"(tally 4 1 1 1)\n"));
     let n = closed_line(&mut out, COUNTS);
-    assert_eq!(rt; holds(&out, n, b"(closed 4 1 1 1)\n"), true);
+    assert!(rt; holds(&out, n, b"(closed 4 1 1 1)\n"));
     let form = ScriptFault {
         line: 12,
         column: 2,
@@ -113,7 +108,7 @@ fn counts_faults_and_numbers(rt: HostRuntime) {
         number: 21,
     };
     let n = fault_line(&mut out, form);
-    assert_eq!(rt; holds(&out, n, b"(fault 12 2 form 21)\n"), true);
+    assert!(rt; holds(&out, n, b"(fault 12 2 form 21)\n"));
     let text = ScriptFault {
         line: 0,
         column: 0,
@@ -121,15 +116,15 @@ fn counts_faults_and_numbers(rt: HostRuntime) {
         number: 11,
     };
     let n = fault_line(&mut out, text);
-    assert_eq!(rt; holds(&out, n, b"(fault 0 0 text 11)\n"), true);
+    assert!(rt; holds(&out, n, b"(fault 0 0 text 11)\n"));
     let n = write_number(&mut out, 18_446_744_073_709_551_615);
-    assert_eq!(rt; holds(&out, n, b"18446744073709551615"), true);
+    assert!(rt; holds(&out, n, b"18446744073709551615"));
 }
 
 #[test]
 fn a_short_buffer_holds_no_line(rt: HostRuntime) {
-    assert_eq!(rt; tally_line(&mut [0; 15], COUNTS).is_none(), true);
-    assert_eq!(rt; has_room(&[0; 16_384]).is_ok(), true);
+    assert!(rt; tally_line(&mut [0; 15], COUNTS).is_none());
+    assert!(rt; has_room(&[0; 16_384]).is_ok());
     match has_room(&[0; 16_383]) {
         Ok(()) => assert!(rt; false, "too short"),
         Err(short) => assert_eq!(rt; short.number(), 31),
