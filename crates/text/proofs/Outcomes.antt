@@ -1,8 +1,9 @@
 -- Every line is spelled by some tokens or has a fault. Assumes nothing.
-use Rattle.std.proofs.Common.{◌≡◌, ℕ, zero, suc, ◌+◌, ◌<◌, ◌≤◌, ◌⊎◌, List, [], ◌∷◌, ◌++◌, length, get_or, take, drop, replicate, Some, None, Option, sym, refl, ap, ◌∙◌, subst, inl, inr, ⊎_elim, add-one, one-add, arith, take-append-drop}
+use Rattle.std.proofs.Common.{get_or-take, get_or-drop, add-zero, ◌≡◌, ℕ, zero, suc, ◌+◌, ◌<◌, ◌≤◌, ◌⊎◌, List, [], ◌∷◌, ◌++◌, length, get_or, take, drop, replicate, Some, None, Option, sym, refl, ap, ◌∙◌, subst, inl, inr, ⊎_elim, add-one, arith, take-append-drop}
 use Rattle.std.proofs.lemmas.List.{append_assoc, replicate-append-replicate, length-take-le, length-drop}
 use Rattle.std.proofs.lemmas.Option.{none-some}
-use Rattle.std.proofs.lemmas.Bool.{cases_Bool}
+use Rattle.std.proofs.lemmas.List.Sums.{prefix_len_passes, prefix_len_stops}
+use Rattle.std.proofs.lemmas.Bool.{both_ways}
 use Rattle.text.specs.Alphabet.{class, same}
 use Rattle.text.specs.Faults.{along}
 use Rattle.text.specs.Numbers.{number_of}
@@ -15,11 +16,11 @@ use Rattle.text.specs.declared.fault.Fault.{Fault}
 use Rattle.text.specs.declared.fault.Fault.TheVariants as fault
 use Rattle.text.specs.declared.fault.Place.{Place}
 use Rattle.text.proofs.Bytes.{class_known, digit_class, letter_class}
-use Rattle.text.proofs.Classes.{same_class}
-use Rattle.text.proofs.Cutting.{run_none, run_goes_on, run_off, run_within}
+use Rattle.text.proofs.Classes.{same_class, class_same}
+use Rattle.text.proofs.Cutting.{run_goes_on, run_within}
 use Rattle.text.proofs.Decimals.{number_decimal, decimal_number}
 use Rattle.text.proofs.Leading.{OfClass, NotClass, along_twice}
-use Rattle.text.proofs.Tokening.{along_none, run_over}
+use Rattle.text.proofs.Tokening.{along_none}
 
 -- what becomes of the bytes at p with d brackets open
 abbrev pub Outcome : Place → ℕ → List ℕ → Type 0
@@ -71,23 +72,17 @@ pub record Front (k : Class) (bs : List ℕ) : Type 0 where
   pub stops : NotClass k after
   pub shorter : length after < length bs
 
-first_too : (k : Class) (b n : ℕ) (bs : List ℕ) → class b ≡ k → ((i : ℕ) → i < n → class (get_or (take n bs) i 0) ≡ k) → (i : ℕ) → i < suc n → class (get_or (b ∷ take n bs) i 0) ≡ k
-first_too k b n bs e rest zero h = e
-first_too k b n bs e rest (suc i) h = rest i (omega arith)
-
 run_class : (k : Class) (bs : List ℕ) (i : ℕ) → i < run_length k bs → class (get_or (take (run_length k bs) bs) i 0) ≡ k
-run_class k [] i h = let n = run_none k in absurd (omega arith)
-run_class k (b ∷ bs) i h =
-    ⊎_elim
-    (λ e.
-    let on = run_goes_on k b bs (same_class _ _ e) ∙ one-add _ in
-    subst (λ n. class (get_or (take n (b ∷ bs)) i 0) ≡ k) (sym on) (first_too k b (run_length k bs) bs (same_class _ _ e) (run_class k bs) i (subst (λ n. i < n) on h)))
-    (λ e. let off = run_off k b bs e in absurd (omega arith))
-    (cases_Bool (same (class b) k))
+run_class k bs i h =
+    ap class (get_or-take (run_length k bs) bs i 0 h) ∙ same_class _ _ (prefix_len_passes (λ b. same (class b) k) bs i 0 h)
 
-run_ended : (k : Class) (bs : List ℕ) → run_length k bs ≡ 0 → NotClass k bs
-run_ended k [] z h e = absurd (omega arith)
-run_ended k (b ∷ bs) z h e = let on = run_goes_on k b bs e in omega arith
+-- a run goes on as far as it can
+run_ended : (k : Class) (bs : List ℕ) → NotClass k (drop (run_length k bs) bs)
+run_ended k bs h e =
+    let n = run_length k bs in
+    let left = length-drop n bs in
+    let next = get_or-drop n bs 0 0 ∙ ap (λ i. get_or bs i 0) (add-zero n) in
+    both_ways _ (prefix_len_stops (λ b. same (class b) k) bs 0 (omega (arith, h))) (class_same _ _ (sym (ap class next) ∙ e))
 
 front : (b : ℕ) (bs : List ℕ) → Front (class b) (b ∷ bs)
 front b bs =
@@ -103,7 +98,7 @@ front b bs =
       whole = take-append-drop n (b ∷ bs);
       some = omega arith;
       all = λ i h. run_class k (b ∷ bs) i (omega arith);
-      stops = run_ended k _ (run_over k (b ∷ bs));
+      stops = run_ended k (b ∷ bs);
       shorter = omega arith;
     }
 
