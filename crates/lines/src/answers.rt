@@ -57,6 +57,7 @@ pub fn answer_line<K: Kind>(
     match answer {
         Answer::Released(value) => sum_line(out, low, high, *value),
         Answer::Withheld(pair, count) => withheld_line(out, low, high, *pair, first(table, *count)),
+        // Stays: `u64` has no `From<usize>`.
         Answer::LostSlot(slot) => numbered_line(out, b"(lost", low, high, *slot as u64),
         Answer::Refused(fault) => numbered_line(
             out,

@@ -20,6 +20,7 @@ pub fn fault_line(out: &mut [u8], fault: ScriptFault) -> Option<usize>
     ensures text { Wrote (fault_line fault.line fault.column fault.layer fault.number) out.old out.new result }
     ensures whole { Whole (fault_line fault.line fault.column fault.layer fault.number) out.old result }
 {
+    // Stays: `u64` has no `From<usize>`.
     let place = [fault.line as u64, fault.column as u64];
     Text(b"(fault")
         .then(Each(&place))

@@ -101,6 +101,7 @@ impl Piece for u64 {
     }
 }
 
+// Stays: one impl for every `itoa::Integer` is refused ("conflicting impls of the trait `Piece` for `Step`").
 impl Piece for u32 {
     ghost text = { number_text };
 

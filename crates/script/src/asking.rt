@@ -13,6 +13,7 @@ use links::Step;
 use rules::Rule;
 use stores::Store;
 
+// Stays: the ledger's own query takes ledger, amounts, store, rule and range one by one, and no second function here takes them.
 pub(crate) fn ask<K: Kind, T: Store<K>, R: Rule, S: Sink>(
     ledger: &mut Ledger,
     amounts: &mut Amounts<'_, K>,

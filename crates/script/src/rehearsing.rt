@@ -21,6 +21,7 @@ impl<R> Piece for Trials<'_, R> {
     ghost text = { λ it. flat_map tried_text (answered (map ends_of it.tries.now) it.trials.now) };
 
     fn put(&self, out: &mut [u8]) -> Option<usize> {
+        // Stays: a loop beside that of `Each`, which goes over one slice; the items of an iterator are no value that `text` could name.
         let mut len = 0;
         for (tried, trial) in self.tries.iter().zip(self.trials) {
             len += write_trial(&mut out[len..], tried.low, tried.high, *trial)?;
