@@ -1,8 +1,8 @@
 -- Numbers and the digits that write them. Assumes nothing.
-use Rattle.std.proofs.Common.{◌≡◌, ℕ, ◌+◌, ◌-◌, ◌^◌, ◌<◌, false, ltb, List, length, get_or, Some, None, decimal, sym, ap, ◌∙◌, ⊎_elim, mul_comm, arith}
+use Rattle.std.proofs.Common.{◌≡◌, ℕ, ◌+◌, ◌-◌, ◌^◌, ◌<◌, false, ltb, List, length, get_or, Some, decimal, sym, ap, ◌∙◌, ⊎_elim, mul_comm, arith}
 use Rattle.std.proofs.lemmas.Fmt.{decimal-digits_value, digits_value-decimal, digits_decimal, first_decimal, decimal_digit}
 use Rattle.std.proofs.lemmas.Str.Parse.{IsNumeralModel, FoldsDigits, numerals_by_fold, tells_by_index}
-use Rattle.std.proofs.lemmas.Option.{none-some}
+use Rattle.std.proofs.lemmas.Option.{cond_some, none-some}
 use Rattle.std.proofs.lemmas.Bool.{both_ways, cases_lt, cond-true, cond-false, cases_Bool, cases_order, eq-eqb, ne_eqb, lt-ltb, ltb-true, and_from, and_right}
 use Rattle.text.specs.Numbers.{value_after, zero_led, number_of}
 use Rattle.text.specs.Spelling.{Between}
@@ -39,19 +39,15 @@ number_decimal n h =
 pub decimal_number : (ds : List ℕ) (n : ℕ) → 0 < length ds → Between 48 57 ds → number_of ds ≡ Some n → (n < 2 ^ 32) × (ds ≡ decimal n)
 decimal_number ds n some all is =
     ⊎_elim
-    (λ led. let none : None ≡ Some n = sym (cond-true _ _ _ led) ∙ is in absurd (none-some _ none))
+    (λ led. absurd (none-some n (sym (cond-true _ _ _ led) ∙ is)))
     (λ led.
-    ⊎_elim
-    (λ small.
-    let found : Some (value_after 0 ds) ≡ Some n = sym (cond-false _ _ _ led ∙ cond-true _ _ _ small) ∙ is in
-    let same : value_after 0 ds ≡ n = cc in
-    let less = ltb-true (value_after 0 ds) (2 ^ 32) small in
+    let found = cond_some (ltb (value_after 0 ds) (2 ^ 32)) (value_after 0 ds) n (sym (cond-false _ _ _ led) ∙ is) in
+    let same = found.1 in
+    let less = ltb-true (value_after 0 ds) (2 ^ 32) found.0 in
     let first : get_or ds 0 0 ≡ 48 → length ds ≡ 1 =
     λ e. ⊎_elim
     (λ (long : 1 < length ds). absurd (both_ways _ led (and_from _ _ (lt-ltb _ _ long) (eq-eqb _ _ e))))
     (λ short. omega arith)
     (cases_lt 1 (length ds)) in
     (omega arith, sym (decimal-digits_value own ds all some first (omega arith)) ∙ ap decimal same))
-    (λ big. let none : None ≡ Some n = sym (cond-false _ _ _ led ∙ cond-false _ _ _ big) ∙ is in absurd (none-some _ none))
-    (cases_Bool (ltb (value_after 0 ds) (2 ^ 32))))
     (cases_Bool (zero_led ds))
