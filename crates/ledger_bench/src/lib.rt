@@ -36,16 +36,16 @@ struct Asked<'a> {
 impl Asked<'_> {
     // Asks each range, and mixes the answers in.
     fn ask<R: Rule>(&mut self, rule: &R, ranges: &[u32]) {
+        let Asked {
+            ledger,
+            amounts,
+            store,
+            chain,
+            sum,
+        } = self;
         for &[low, high] in ranges.as_chunks::<2>().0 {
-            let answer = self.ledger.query(
-                &mut self.amounts,
-                &self.store,
-                rule,
-                low,
-                high,
-                &mut self.chain,
-            );
-            self.sum = self.sum.wrapping_mul(31).wrapping_add(digest(&answer));
+            let answer = ledger.query(amounts, store, rule, low, high, chain);
+            *sum = sum.wrapping_mul(31).wrapping_add(digest(&answer));
         }
     }
 }
