@@ -1,6 +1,6 @@
 // The lines that say what the flash bytes of a trace hold.
 use crate::compare::difference;
-use crate::request::{NoStretch, Stretch};
+use crate::request::Stretch;
 use kinds::Kind;
 use std::alloc::{AllocError, Global};
 use std::fmt;
@@ -48,10 +48,9 @@ fn stretch_lines<K: Kind + fmt::Display>(
     text: &str,
     out: &mut Vec<String>,
 ) -> Result<(), AllocError> {
-    let Stretch { low, high } = match text.parse() {
+    let Stretch { low, high } = match text.parse::<Stretch>() {
         Ok(stretch) => stretch,
         Err(fault) => {
-            let fault: NoStretch = fault;
             out.push(format!(in heap; "stretch {text}: refused: {fault}")?)?;
             return Ok(());
         }
@@ -67,6 +66,26 @@ fn stretch_lines<K: Kind + fmt::Display>(
     Ok(())
 }
 
+// Records of one sort: how many there are, and how many of them are as they should be.
+#[derive(Clone, Copy, Debug, Default)]
+struct Tally {
+    all: usize,
+    right: usize,
+}
+
+impl Tally {
+    fn count(&mut self, right: bool) {
+        self.all = self.all.saturating_add(1);
+        self.right = self.right.saturating_add(usize::from(right));
+    }
+}
+
+impl fmt::Display for Tally {
+    fn fmt<W: fmt::Write>(&self, f: &mut fmt::Formatter<W>) -> fmt::Result {
+        write!(f, "{} of {}", self.right, self.all)
+    }
+}
+
 // What packing each slot again as it was read gives: kept records with the same bytes, lost ones as zeros.
 fn repacked_line<K: Kind>(
     heap: Global,
@@ -76,28 +95,18 @@ fn repacked_line<K: Kind>(
     // every byte begins other than it should end
     let mut again = vec![in heap; 0xffu8; bytes.len()]?;
     let _ = repack::<K>(bytes, &mut again);
-    let mut kept: usize = 0;
-    let mut same: usize = 0;
-    let mut lost: usize = 0;
-    let mut zero: usize = 0;
+    let mut kept = Tally::default();
+    let mut lost = Tally::default();
     let records = bytes
         .chunks_exact(width::<K>())
         .zip(again.chunks_exact(width::<K>()));
     for (slot, (before, after)) in records.enumerate() {
         match packed.read(slot) {
-            Reading::Value(_) => {
-                kept = kept.saturating_add(1);
-                same = same.saturating_add(usize::from(before == after));
-            }
-            Reading::Missing | Reading::Outside => {
-                lost = lost.saturating_add(1);
-                zero = zero.saturating_add(usize::from(after.iter().all(|byte| *byte == 0)));
-            }
+            Reading::Value(_) => kept.count(before == after),
+            Reading::Missing | Reading::Outside => lost.count(after.iter().all(|byte| *byte == 0)),
         }
     }
-    format!(in heap;
-        "packed again: {same} of {kept} kept records the same, {zero} of {lost} lost records zeros"
-    )
+    format!(in heap; "packed again: {kept} kept records the same, {lost} lost records zeros")
 }
 
 // All lines of a trace: its size, its slots, the same slots as a list and through a window, the stretches, and packing again.
