@@ -5,7 +5,7 @@ ghost use Rattle.ledger.specs.State.{rule_of, releases_of};
 ghost use Rattle.ledger.specs.Truth.{TrueTo};
 ghost use Rattle.script.specs.Printed.{AskedAndPrinted};
 
-use crate::print::{Answered, Printer};
+use crate::print::{AnswerLine, Printer};
 use crate::sink::Sink;
 use kinds::Kind;
 use ledger::{Amounts, Ledger};
@@ -32,7 +32,7 @@ pub(crate) fn ask<K: Kind, T: Store<K>, R: Rule, S: Sink>(
     ensures told { printer.new.sink.ghost_name ≡ printer.old.sink.ghost_name }
 {
     let answer = ledger.query(amounts, store, rule, low, high, steps);
-    let told = Answered {
+    let told = AnswerLine {
         low,
         high,
         answer: &answer,

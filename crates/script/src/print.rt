@@ -54,14 +54,14 @@ impl<'a, S: Sink> Printer<'a, S> {
 
 // What a ledger answered to a query, with the table that has the chain of a withheld one in its first steps.
 #[derive(Clone, Copy)]
-pub(crate) struct Answered<'a, K> {
+pub(crate) struct AnswerLine<'a, K> {
     pub(crate) low: u32,
     pub(crate) high: u32,
     pub(crate) answer: &'a Answer<K>,
     pub(crate) table: &'a [Step],
 }
 
-impl<K: Kind> Line for Answered<'_, K> {
+impl<K: Kind> Line for AnswerLine<'_, K> {
     ghost text = { λ it. answer_line K.Kind.NAME K.Kind.numbers it.low it.high (valued_answer K.Kind.meaning it.answer.now) it.table.now };
 
     ghost modest = { λ it. ModestAnswer it.answer.now it.table.now };
