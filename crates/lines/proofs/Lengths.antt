@@ -33,13 +33,17 @@ any_number : (n : ℕ) → length (number_text n) ≤ 65
 unfolding digits
 any_number n = let h = spelled_long 64 n [] in omega arith
 
+-- texts of at most m bytes, one after the other
+each_long : {X : Type 0} (f : X → List ℕ) (m : ℕ) → ((x : X) → length (f x) ≤ m) → (xs : List X) → length (flat_map f xs) ≤ m * length xs
+each_long f m most [] = omega arith
+each_long f m most (x ∷ xs) =
+    let one = most x in
+    let rest = each_long f m most xs in
+    omega (arith, length-append (f x) (flat_map f xs))
+
 -- so numbers take at most 65 bytes each
 any_numbers : (ns : List ℕ) → length (numbers ns) ≤ 65 * length ns
-any_numbers [] = omega arith
-any_numbers (n ∷ ns) =
-    let one = any_number n in
-    let rest = any_numbers ns in
-    omega (arith, length-append (number_text n) (numbers ns))
+any_numbers = each_long number_text 65 any_number
 
 form_long : (opening ns closing : List ℕ) → length (form_text opening ns closing) ≤ length opening + 65 * length ns + length closing
 form_long opening ns closing =
@@ -83,12 +87,8 @@ trial_long low high Trial.Free = let h = form_long (codes " (free") (low ∷ hig
 trial_long low high (Trial.Withheld p) = let h = pair_long (codes " (withheld") low high p (codes "))") in omega arith
 trial_long low high (Trial.Refused f) = let h = form_long (codes " (refused") (low ∷ high ∷ number f ∷ []) (codes ")") in omega arith
 
-pub tries_long : (ts : List Tried) → length (flat_map tried_text ts) ≤ 279 * length ts
-tries_long [] = omega arith
-tries_long (t ∷ ts) =
-    let one = trial_long t.low t.high t.trial in
-    let rest = tries_long ts in
-    omega (arith, length-append (tried_text t) (flat_map tried_text ts))
+tries_long : (ts : List Tried) → length (flat_map tried_text ts) ≤ 279 * length ts
+tries_long = each_long tried_text 279 (λ t. trial_long t.low t.high t.trial)
 
 pub rehearsals_fit : RehearsalsFit
 rehearsals_fit ts few =
