@@ -30,6 +30,7 @@ pub fn judge(line: Line<'_>) -> Result<(), Fault>
 {
     let mut left = line;
     let mut depth: u32 = 0;
+    // Stays: behind a `for run in left.by_ref()` no fact says where the line ends, and the last fault stands there.
     while let Some(run) = left.next() {
         depth = depth_after(depth, run)?;
     }
