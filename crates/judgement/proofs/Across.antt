@@ -2,7 +2,8 @@
 use Rattle.std.proofs.Common.{◌≡◌, ℕ, zero, suc, ◌+◌, ◌<◌, ◌≤◌, Bool, true, false, cond, eqb, ◌⊎◌, List, [], ◌∷◌, length, get_or, Some, None, Option, sym, refl, ◌∙◌, subst, inl, inr, arith}
 use Rattle.std.proofs.lemmas.Bool.{cases_eq, cases_Bool, eq-eqb, ne_eqb, cond-true, cond-false, both_ways}
 use Rattle.links.specs.declared.step.Range.{Range}
-use Rattle.judgement.specs.Search.{places, first_yes, with_low, pair_across}
+use Rattle.std.specs.List.{find}
+use Rattle.judgement.specs.Search.{places, with_low, pair_across}
 
 -- the list holds x at i, its places counted from n on
 abbrev pub Holds : ℕ → List ℕ → ℕ → ℕ → Type 0
@@ -44,28 +45,28 @@ first_lift says x l ls n (Some j) never f = (inr f.0, f.1, by)
     by k (inl h) e = absurd (both_ways (says k) (subst (λ m. says m ≡ false) h.0 (never h.1)) e)
     by k (inr h) e = f.2 k h e
 
-first_found : (says : ℕ → Bool) (x : ℕ) (ls : List ℕ) (n : ℕ) → First says x ls n (first_yes says (places x ls n))
-unfolding first_yes places
+first_found : (says : ℕ → Bool) (x : ℕ) (ls : List ℕ) (n : ℕ) → First says x ls n (find says (places x ls n))
+unfolding places
 first_found says x [] n = λ j h. absurd h
 first_found says x (l ∷ ls) n =
     by (cases_eq l x) (cases_Bool (says n)) (first_found says x ls (suc n))
   where
     Goal : List ℕ → Type 0
-    Goal js = First says x (l ∷ ls) n (first_yes says js)
+    Goal js = First says x (l ∷ ls) n (find says js)
 
-    by : (l ≡ x) ⊎ (l ≡ x → ⊥) → (says n ≡ true) ⊎ (says n ≡ false) → First says x ls (suc n) (first_yes says (places x ls (suc n)))
+    by : (l ≡ x) ⊎ (l ≡ x → ⊥) → (says n ≡ true) ⊎ (says n ≡ false) → First says x ls (suc n) (find says (places x ls (suc n)))
         → Goal (cond (eqb l x) (n ∷ places x ls (suc n)) (places x ls (suc n)))
     by (inl e) (inl y) f =
         subst Goal (sym (cond-true (eqb l x) _ _ (eq-eqb l x e)))
-        (subst (First says x (l ∷ ls) n) (sym (cond-true (says n) (Some n) (first_yes says (places x ls (suc n))) y))
+        (subst (First says x (l ∷ ls) n) (sym (cond-true (says n) (Some n) (find says (places x ls (suc n))) y))
         (inl (refl, e), y, (λ k h _. holds_from x (l ∷ ls) n k h)))
     by (inl e) (inr o) f =
         subst Goal (sym (cond-true (eqb l x) _ _ (eq-eqb l x e)))
-        (subst (First says x (l ∷ ls) n) (sym (cond-false (says n) (Some n) (first_yes says (places x ls (suc n))) o))
-        (first_lift says x l ls n (first_yes says (places x ls (suc n))) (λ _. o) f))
+        (subst (First says x (l ∷ ls) n) (sym (cond-false (says n) (Some n) (find says (places x ls (suc n))) o))
+        (first_lift says x l ls n (find says (places x ls (suc n))) (λ _. o) f))
     by (inr ne) _ f =
         subst Goal (sym (cond-false (eqb l x) _ _ (ne_eqb l x ne)))
-        (first_lift says x l ls n (first_yes says (places x ls (suc n))) (λ e. absurd (ne e)) f)
+        (first_lift says x l ls n (find says (places x ls (suc n))) (λ e. absurd (ne e)) f)
 
 -- one of i and j is a place of x, the other a place of y
 abbrev pub Across : ℕ → ℕ → List ℕ → ℕ → ℕ → ℕ → Type 0
@@ -154,7 +155,7 @@ pair_found says x y ne (l ∷ ls) n = by (cases_eq l x) (cases_eq l y) (pair_fou
     Rest = pair_across says x y ls (suc n)
 
     Beside : ℕ → Option Range
-    Beside z = with_low n (first_yes (says n) (places z ls (suc n))) Rest
+    Beside z = with_low n (find (says n) (places z ls (suc n))) Rest
 
     away : (j : ℕ) → (l ≡ x → ⊥) → (l ≡ y → ⊥) → n < j → Across x y (l ∷ ls) n n j → says n j ≡ false
     away j p q lt (inl (inl a, b)) = absurd (p a.1)
@@ -166,12 +167,12 @@ pair_found says x y ne (l ∷ ls) n = by (cases_eq l x) (cases_eq l y) (pair_fou
         → Pair says x y (l ∷ ls) n (cond (eqb l x) (Beside y) (cond (eqb l y) (Beside x) Rest))
     by (inl e) _ p =
         subst (Pair says x y (l ∷ ls) n) (sym (cond-true (eqb l x) _ _ (eq-eqb l x e)))
-        (head_found says x y l ls n (first_yes (says n) (places y ls (suc n))) Rest ne e (first_found (says n) y ls (suc n)) p)
+        (head_found says x y l ls n (find (says n) (places y ls (suc n))) Rest ne e (first_found (says n) y ls (suc n)) p)
     by (inr a) (inl e) p =
         subst (Pair says x y (l ∷ ls) n)
         (sym (cond-false (eqb l x) (Beside y) _ (ne_eqb l x a) ∙ cond-true (eqb l y) (Beside x) Rest (eq-eqb l y e)))
         (pair_swap says y x (l ∷ ls) n (Beside x)
-        (head_found says y x l ls n (first_yes (says n) (places x ls (suc n))) Rest (λ z. ne (sym z)) e (first_found (says n) x ls (suc n)) (pair_swap says x y ls (suc n) Rest p)))
+        (head_found says y x l ls n (find (says n) (places x ls (suc n))) Rest (λ z. ne (sym z)) e (first_found (says n) x ls (suc n)) (pair_swap says x y ls (suc n) Rest p)))
     by (inr a) (inr b) p =
         subst (Pair says x y (l ∷ ls) n)
         (sym (cond-false (eqb l x) (Beside y) _ (ne_eqb l x a) ∙ cond-false (eqb l y) (Beside x) Rest (ne_eqb l y b)))

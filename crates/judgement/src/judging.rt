@@ -3,7 +3,7 @@ ghost use Rattle.links.specs.Joined.{joined};
 ghost use Rattle.judgement.specs.Judgement.{Found};
 
 use crate::finding::Finding;
-use crate::search::{across, leaders};
+use crate::search::across;
 use links::{Boundary, Links};
 use rules::Rule;
 
@@ -16,7 +16,7 @@ pub fn judge<R: Rule>(links: &Links, rule: &R, low: Boundary, high: Boundary) ->
     if x == y {
         return Finding::Linked;
     }
-    match across(rule, &leaders(links), x, y) {
+    match across(rule, &links.leaders(), x, y) {
         Some(pair) => Finding::Withheld(pair),
         None => Finding::Free,
     }

@@ -5,29 +5,31 @@ ghost use Rattle.judgement.specs.Refusal.{Explained, Unexplained, NewStep, Cross
 
 use links::{Boundary, Links, Origin, Range, Sign, Step};
 
-// Writes the chain from `from` to `near`, the step to `far`, and the chain from there to `to`.
-fn cross(
-    links: &Links,
-    from: Boundary,
+// The judged range as a step from one of its ends to the other.
+#[derive(Clone, Copy)]
+struct Crossing {
     near: Boundary,
     step: Step,
     far: Boundary,
+}
+
+// Writes the chain from `from` to the near end, the step to the far end, and the chain from there to `to`.
+fn cross(
+    links: &Links,
+    from: Boundary,
+    crossing: Crossing,
     to: Boundary,
     table: &mut [Step],
 ) -> Option<usize>
-    requires { NewStep (joined links.now) near.index far.index step }
-    ensures { MatchOption result (Uncrossed (joined links.now) near.index far.index from.index to.index table.old table.new) (λ n. Crossed (joined links.now) near.index far.index step from.index to.index n table.old table.new) }
+    requires { NewStep (joined links.now) crossing.near.index crossing.far.index crossing.step }
+    ensures { MatchOption result (Uncrossed (joined links.now) crossing.near.index crossing.far.index from.index to.index table.old table.new) (λ n. Crossed (joined links.now) crossing.near.index crossing.far.index crossing.step from.index to.index n table.old table.new) }
 {
-    let mut rest = [step; 1023];
-    let Some(after) = links.chain(far, to, &mut rest) else {
-        return None;
-    };
-    let Some(before) = links.chain(from, near, table) else {
-        return None;
-    };
-    table[before] = step;
+    let mut rest = [crossing.step; 1023];
+    let after = links.chain(crossing.far, to, &mut rest)?;
+    let before = links.chain(from, crossing.near, table)?;
+    table[before] = crossing.step;
     let place = before + 1;
-    table[place..place + after].copy_from_slice(&rest[0..after]);
+    table[place..place + after].copy_from_slice(&rest[..after]);
     Some(place + after)
 }
 
@@ -43,25 +45,30 @@ pub fn refusal(
 ) -> Option<usize>
     ensures { MatchOption result (Unexplained (joined links.now) (record { low = low.index; high = high.index }) pair table.old table.new) (λ n. Explained (joined links.now) (record { low = low.index; high = high.index }) pair n table.old table.new) }
 {
-    let Some(from) = Boundary::new(pair.low as u32) else {
-        return None;
-    };
-    let Some(to) = Boundary::new(pair.high as u32) else {
-        return None;
-    };
+    let from = Boundary::try_from(u32::from(pair.low)).ok()?;
+    let to = Boundary::try_from(u32::from(pair.high)).ok()?;
     if links.linked(low, high) {
         return None;
     }
-    let mut step = Step {
+    let step = Step {
         low: low.index(),
         high: high.index(),
         sign: Sign::Plus,
         origin: Origin::New,
     };
     if links.linked(from, low) {
-        cross(links, from, low, step, high, to, table)
+        let up = Crossing {
+            near: low,
+            step,
+            far: high,
+        };
+        cross(links, from, up, to, table)
     } else {
-        step.sign = Sign::Minus;
-        cross(links, from, high, step, low, to, table)
+        let down = Crossing {
+            near: high,
+            step: step.reversed(),
+            far: low,
+        };
+        cross(links, from, down, to, table)
     }
 }

@@ -1,59 +1,33 @@
 // The search for the first protected pair that lies across two sets of boundaries.
-ghost use Rattle.std.specs.Prelude.{◌≡◌, ℕ, ◌<◌, ◌≤◌, length, drop, ◌≢◌, slice_index};
-ghost use Rattle.links.specs.Joined.{leader_of};
-ghost use Rattle.judgement.specs.Search.{places, first_yes, pair_across};
+ghost use Rattle.std.specs.Prelude.{◌≡◌, ◌≤◌, length, ◌≢◌, find};
+ghost use Rattle.judgement.specs.Search.{places, pair_across};
 
-use links::{Boundary, Links, Range};
+use arrayvec::ArrayVec;
+use links::{BOUNDARIES, Range};
 use rules::Rule;
 
-// The members of one set in ascending order, from `start` on.
-#[derive(Clone, Copy)]
-struct Members {
-    items: [u16; 1024],
-    start: usize,
-}
-
-// The leader of each boundary.
-pub fn leaders(links: &Links) -> [u16; 1024]
-    ensures long { length result ≡ 1024 }
-    ensures each { (i : ℕ) → i < 1024 → slice_index result i ≡ leader_of links.now i }
+// The boundaries that `leader` leads, in ascending order.
+fn members(leaders: &[u16], leader: u16) -> ArrayVec<u16, BOUNDARIES>
+    requires { length leaders.now ≤ 1024 }
+    ensures { result.items ≡ places leader leaders.now 0 }
 {
-    let mut leaders = [0; 1024];
-    for i in 0..1024usize {
-        if let Some(b) = Boundary::new(i as u32) {
-            leaders[i] = links.leader(b).index();
+    let mut members = ArrayVec::new();
+    for (i, other) in leaders.iter().enumerate() {
+        if *other == leader {
+            members.push(i as u16);
         }
     }
-    leaders
-}
-
-fn gathered(leaders: &[u16], leader: u16) -> Members
-    requires { length leaders.now ≡ 1024 }
-    ensures long { length result.items ≡ 1024 }
-    ensures within { result.start ≤ 1024 }
-    ensures all { drop result.start result.items ≡ places leader leaders.now 0 }
-{
-    let mut items = [0; 1024];
-    let mut start = 1024;
-    for i in (0..1024usize).rev() {
-        if leaders[i] == leader {
-            start -= 1;
-            items[start] = i as u16;
-        }
-    }
-    Members { items, start }
+    members
 }
 
 // The first of the listed boundaries whose pair with `i` is protected.
 fn first<R: Rule>(rule: &R, i: u16, others: &[u16]) -> Option<u16>
-    ensures { result ≡ first_yes (R.Rule.protects rule.now i) others.now }
+    ensures { result ≡ find (R.Rule.protects rule.now i) others.now }
 {
-    for j in others {
-        if rule.protects(i as u32, *j as u32) {
-            return Some(*j);
-        }
-    }
-    None
+    others
+        .iter()
+        .copied()
+        .find(|j| rule.protects(u32::from(i), u32::from(*j)))
 }
 
 // The protected pair across the sets of the leaders `x` and `y` that has the smallest low end, and of those the smallest high end.
@@ -62,20 +36,20 @@ pub fn across<R: Rule>(rule: &R, leaders: &[u16], x: u16, y: u16) -> Option<Rang
     requires apart { x ≢ y }
     ensures { result ≡ pair_across (R.Rule.protects rule.now) x y leaders.now 0 }
 {
-    let ours = gathered(leaders, x);
-    let theirs = gathered(leaders, y);
-    let mut our = ours.start;
-    let mut their = theirs.start;
-    for i in 0..1024usize {
+    let ours = members(leaders, x);
+    let theirs = members(leaders, y);
+    let mut ours = ours.as_slice();
+    let mut theirs = theirs.as_slice();
+    for (i, leader) in leaders.iter().enumerate() {
         let low = i as u16;
-        if leaders[i] == x {
-            our += 1;
-            if let Some(high) = first(rule, low, &theirs.items[their..]) {
+        if *leader == x {
+            ours = &ours[1..];
+            if let Some(high) = first(rule, low, theirs) {
                 return Some(Range { low, high });
             }
-        } else if leaders[i] == y {
-            their += 1;
-            if let Some(high) = first(rule, low, &ours.items[our..]) {
+        } else if *leader == y {
+            theirs = &theirs[1..];
+            if let Some(high) = first(rule, low, ours) {
                 return Some(Range { low, high });
             }
         }

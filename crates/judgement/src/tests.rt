@@ -1,6 +1,6 @@
 // Judgements and refusals on examples.
 use crate::{Finding, judge, refusal};
-use links::{Boundary, Links, Origin, Range, Sign, Step};
+use links::{Boundary, Hung, Links, Origin, Range, Sign, Step};
 use rules::{Joined, Rule, Short, Span, Spans};
 
 const BLANK: Step = Step {
@@ -10,40 +10,28 @@ const BLANK: Step = Step {
     origin: Origin::Released,
 };
 
-fn join(links: &mut Links, low: u32, high: u32) {
-    if let Some(a) = Boundary::new(low) {
-        if let Some(b) = Boundary::new(high) {
-            let _ = links.join(a, b);
-        }
-    }
+fn boundary(number: u32) -> Option<Boundary> {
+    Boundary::try_from(number).ok()
+}
+
+fn join(links: &mut Links, low: u32, high: u32) -> Option<Hung> {
+    links.join(boundary(low)?, boundary(high)?)
 }
 
 fn judged<R: Rule>(links: &Links, rule: &R, low: u32, high: u32) -> Option<Finding> {
-    let Some(a) = Boundary::new(low) else {
-        return None;
-    };
-    let Some(b) = Boundary::new(high) else {
-        return None;
-    };
-    Some(judge(links, rule, a, b))
+    Some(judge(links, rule, boundary(low)?, boundary(high)?))
 }
 
 fn refused(links: &Links, low: u32, high: u32, pair: Range, table: &mut [Step]) -> Option<usize> {
-    let Some(a) = Boundary::new(low) else {
-        return None;
-    };
-    let Some(b) = Boundary::new(high) else {
-        return None;
-    };
-    refusal(links, a, b, pair, table)
+    refusal(links, boundary(low)?, boundary(high)?, pair, table)
 }
 
 #[test]
 fn short_range_by_subtraction(rt: HostRuntime) {
     let rule = Short::new(3);
     let mut links = Links::new();
-    join(&mut links, 0, 4);
-    join(&mut links, 1, 5);
+    let _ = join(&mut links, 0, 4);
+    let _ = join(&mut links, 1, 5);
     let known = judged(&links, &rule, 4, 0);
     let free = judged(&links, &rule, 4, 8);
     let withheld = judged(&links, &rule, 0, 5);
@@ -80,7 +68,7 @@ fn listed_range_behind_a_release(rt: HostRuntime) {
     let rule = Joined::new(Short::new(1), Spans::new(&spans));
     let mut links = Links::new();
     let first = judged(&links, &rule, 0, 2);
-    join(&mut links, 0, 2);
+    let _ = join(&mut links, 0, 2);
     let second = judged(&links, &rule, 0, 4);
     let mut table = [BLANK; 1023];
     let len = refused(&links, 0, 4, Range { low: 2, high: 4 }, &mut table);
@@ -95,7 +83,7 @@ fn listed_range_behind_a_release(rt: HostRuntime) {
 #[test]
 fn nothing_to_explain(rt: HostRuntime) {
     let mut links = Links::new();
-    join(&mut links, 0, 2);
+    let _ = join(&mut links, 0, 2);
     let mut table = [BLANK; 1023];
     let inside = refused(&links, 0, 4, Range { low: 0, high: 2 }, &mut table);
     let linked = refused(&links, 0, 2, Range { low: 0, high: 2 }, &mut table);
