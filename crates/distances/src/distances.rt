@@ -7,7 +7,7 @@ ghost use Rattle.distances.specs.Kept.{Laid, Untouched};
 
 use crate::table;
 use kinds::Kind;
-use links::{Boundary, Hung, Links};
+use links::{BOUNDARIES, Boundary, Hung, Links};
 
 // One value of the kind for each boundary. Distances can't be copied, and are taken apart by `close` alone.
 pub struct Distances<'a, K> {
@@ -58,11 +58,10 @@ impl<'a, K: Kind> Distances<'a, K> {
     {
         let (low, near) = self.find(links, a);
         let (high, far) = self.find(links, b);
-        if low.index() == high.index() {
-            Some(far.plus(near.inverse()))
-        } else {
-            None
+        if low != high {
+            return None;
         }
+        Some(far.plus(near.inverse()))
     }
 
     // Joins (a, b) with its sum: the links join it, and the entry of the leader that was hung is set. A table of fewer than 1,024 entries,
@@ -71,16 +70,14 @@ impl<'a, K: Kind> Distances<'a, K> {
         ensures cases { MatchOption result (Untouched links.old links.new self.old.table.now self.new.table.now a.index b.index) (λ h. Laid K.group K.meaning links.old links.new self.old.table.now self.new.table.now a.index b.index h.leader.index h.under.index (K.meaning sum)) }
         ensures stays { self.new.table.ghost_name ≡ self.old.table.ghost_name }
     {
-        if self.len() < 1024 {
+        if self.len() < BOUNDARIES {
             return None;
         }
         let (low, near) = self.find(links, a);
         let (_, far) = self.find(links, b);
-        let Some(hung) = links.join(a, b) else {
-            return None;
-        };
+        let hung = links.join(a, b)?;
         let rise = sum.plus(near).plus(far.inverse());
-        let entry = if hung.leader.index() == low.index() {
+        let entry = if hung.leader == low {
             rise.inverse()
         } else {
             rise

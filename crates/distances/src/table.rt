@@ -1,4 +1,5 @@
 // Single entries of a lent table of values.
+// Stays: the distances hand their lent slice on to these, by a rule of the project.
 ghost use Rattle.std.specs.Prelude.{◌≡◌, ℕ, ◌<◌, map, length, slice_set};
 ghost use Rattle.distances.specs.Distance.{entry};
 
@@ -9,8 +10,9 @@ pub fn clear<K: Kind>(table: &mut [K])
     ensures zeros { (i : ℕ) → entry K.group (map K.meaning table.new) i ≡ K.group.zero }
     ensures len { length table.new ≡ length table.old }
 {
-    for i in 0..table.len() {
-        table[i] = K::zero();
+    // Stays: `fill` would ask that a clone can't fail, which a kind, copied as it is, does not say.
+    for entry in table.iter_mut() {
+        *entry = K::zero();
     }
 }
 
@@ -18,7 +20,7 @@ pub fn clear<K: Kind>(table: &mut [K])
 pub fn at<K: Kind>(table: &[K], i: usize) -> K
     ensures { K.meaning result ≡ entry K.group (map K.meaning table.now) i }
 {
-    if i < table.len() { table[i] } else { K::zero() }
+    table.get(i).copied().unwrap_or(K::zero())
 }
 
 // Sets one entry.

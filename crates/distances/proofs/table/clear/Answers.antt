@@ -4,15 +4,15 @@ use Rattle.std.proofs.lemmas.Bool.{cases_lt}
 use Rattle.distances.proofs.Entries.{entry_past, entry_set, entry_kept}
 use Rattle.distances.proofs.table.clear.Goals as goal
 
-pub loop-i-preserved : goal.loop-i-preserved
-loop-i-preserved g c =
+pub loop-entry-preserved : goal.loop-entry-preserved
+loop-entry-preserved g c =
     let G = g.K.Kind.group in
     let m = g.K.Kind.meaning in
-    let table = c.loop-i.table in
-    let at = c.loop-i.i in
+    let table = c.loop-entry.table in
+    let at = c.loop-entry.entry-index in
     let within : at < length table = omega arith in
     below_more _ _
-    (λ k h. entry_kept G m table at k c.zero.result (λ e. omega arith) ∙ c.loop-i.invariant k h)
+    (λ k h. entry_kept G m table at k c.zero.result (λ e. omega arith) ∙ c.loop-entry.invariant k h)
     (entry_set G m table at c.zero.result within ∙ c.zero.ensures)
 
 pub returns : goal.returns
@@ -21,8 +21,8 @@ returns g c =
       zeros =
           λ i.
           ⊎_elim
-          (λ (h : i < length c.loop-i.table). c.loop-i.invariant i (omega arith))
-          (λ (h : length c.loop-i.table ≤ i). entry_past g.K.Kind.group g.K.Kind.meaning c.loop-i.table i h)
-          (cases_lt i (length c.loop-i.table));
-      len = c.loop-i.auto.table;
+          (λ (h : i < length c.loop-entry.table). c.loop-entry.invariant i (omega arith))
+          (λ (h : length c.loop-entry.table ≤ i). entry_past g.K.Kind.group g.K.Kind.meaning c.loop-entry.table i h)
+          (cases_lt i (length c.loop-entry.table));
+      len = c.loop-entry.auto.table;
     }
