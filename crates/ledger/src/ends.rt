@@ -13,20 +13,20 @@ use rules::Rule;
 const LONGEST: usize = 1023;
 
 // The ends of a range within a log of so many slots.
-fn ends_within(slots: usize, low: u32, high: u32) -> Result<Range<Boundary>, Fault>
+fn ends_within(slots: usize, range: Range<u32>) -> Result<Range<Boundary>, Fault>
     requires { slots ≤ 1023 }
-    ensures fault { MatchResult result (λ ends. (ends_fault slots low high ≡ None) × (ends.low.index ≡ low) × (ends.high.index ≡ high)) (λ fault. ends_fault slots low high ≡ Some fault) }
-    ensures sound { MatchResult result (λ _. (low < high) × (high ≤ slots)) (λ fault. fault ≢ Fault.Full) }
+    ensures fault { MatchResult result (λ ends. (ends_fault slots range.low range.high ≡ None) × (ends.low.index ≡ range.low) × (ends.high.index ≡ range.high)) (λ fault. ends_fault slots range.low range.high ≡ Some fault) }
+    ensures sound { MatchResult result (λ _. (range.low < range.high) × (range.high ≤ slots)) (λ fault. fault ≢ Fault.Full) }
 {
-    if high as usize > slots {
+    if range.high as usize > slots {
         return Err(Fault::Beyond);
     }
-    if low >= high {
+    if range.low >= range.high {
         return Err(Fault::Backward);
     }
     Ok(Range {
-        low: Boundary::new(low).unwrap(),
-        high: Boundary::new(high).unwrap(),
+        low: Boundary::new(range.low).unwrap(),
+        high: Boundary::new(range.high).unwrap(),
     })
 }
 
@@ -35,11 +35,10 @@ pub(crate) fn ends_asked(
     slots: usize,
     distances: usize,
     steps: usize,
-    low: u32,
-    high: u32,
+    range: Range<u32>,
 ) -> Result<Range<Boundary>, Fault>
-    ensures fault { MatchResult result (λ ends. (range_fault slots distances steps low high ≡ None) × (ends.low.index ≡ low) × (ends.high.index ≡ high)) (λ fault. range_fault slots distances steps low high ≡ Some fault) }
-    ensures sound { MatchResult result (λ _. (low < high) × (high ≤ slots) × (1024 ≤ distances) × (1023 ≤ steps)) (λ fault. fault ≢ Fault.Full) }
+    ensures fault { MatchResult result (λ ends. (range_fault slots distances steps range.low range.high ≡ None) × (ends.low.index ≡ range.low) × (ends.high.index ≡ range.high)) (λ fault. range_fault slots distances steps range.low range.high ≡ Some fault) }
+    ensures sound { MatchResult result (λ _. (range.low < range.high) × (range.high ≤ slots) × (1024 ≤ distances) × (1023 ≤ steps)) (λ fault. fault ≢ Fault.Full) }
 {
     if slots > LONGEST {
         return Err(Fault::LongLog);
@@ -50,16 +49,16 @@ pub(crate) fn ends_asked(
     if steps < 1023 {
         return Err(Fault::FewSteps);
     }
-    ends_within(slots, low, high)
+    ends_within(slots, range)
 }
 
 // The ends of a try's range.
-pub(crate) fn ends_tried<R: Rule>(range: &Try<R>) -> Result<Range<Boundary>, Fault>
-    ensures fault { MatchResult result (λ ends. (try_fault (try_of R.Rule.protects R.Rule.ordered range.now) ≡ None) × (ends.low.index ≡ range.now.low) × (ends.high.index ≡ range.now.high)) (λ fault. try_fault (try_of R.Rule.protects R.Rule.ordered range.now) ≡ Some fault) }
-    ensures ordered { OnOk result (range.now.low < range.now.high) }
+pub(crate) fn ends_tried<R: Rule>(attempt: &Try<R>) -> Result<Range<Boundary>, Fault>
+    ensures fault { MatchResult result (λ ends. (try_fault (try_of R.Rule.protects R.Rule.ordered attempt.now) ≡ None) × (ends.low.index ≡ attempt.now.range.low) × (ends.high.index ≡ attempt.now.range.high)) (λ fault. try_fault (try_of R.Rule.protects R.Rule.ordered attempt.now) ≡ Some fault) }
+    ensures ordered { OnOk result (attempt.now.range.low < attempt.now.range.high) }
 {
-    if range.slots > LONGEST {
+    if attempt.slots > LONGEST {
         return Err(Fault::LongLog);
     }
-    ends_within(range.slots, range.low, range.high)
+    ends_within(attempt.slots, attempt.range)
 }

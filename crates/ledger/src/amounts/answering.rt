@@ -90,16 +90,15 @@ impl<K: Kind> Amounts<'_, K> {
         links: &mut Links,
         store: &S,
         rule: &R,
-        low: u32,
-        high: u32,
+        range: Range<u32>,
         chain: &mut [Step],
     ) -> Answer<K>
-        ensures responds { Responds K.Kind.group (meant K.Kind.meaning (S.Store.log store.now)) (rule_of (R.Rule.protects rule.now) (R.Rule.ordered rule.now)) links.old links.new (map K.Kind.meaning self.old.distances.table.now) (map K.Kind.meaning self.new.distances.table.now) chain.old chain.new low high (valued_answer K.Kind.meaning result) }
-        ensures others { SameOrJoined K.Kind.group K.Kind.meaning links.old links.new self.old.distances.table.now self.new.distances.table.now low high }
+        ensures responds { Responds K.Kind.group (meant K.Kind.meaning (S.Store.log store.now)) (rule_of (R.Rule.protects rule.now) (R.Rule.ordered rule.now)) links.old links.new (map K.Kind.meaning self.old.distances.table.now) (map K.Kind.meaning self.new.distances.table.now) chain.old chain.new range.low range.high (valued_answer K.Kind.meaning result) }
+        ensures others { SameOrJoined K.Kind.group K.Kind.meaning links.old links.new self.old.distances.table.now self.new.distances.table.now range.low range.high }
         ensures unfull { result ≢ Answer.Refused Fault.Full }
         ensures stays { self.new.distances.table.ghost_name ≡ self.old.distances.table.ghost_name }
     {
-        match ends_asked(store.slots(), self.distances.len(), chain.len(), low, high) {
+        match ends_asked(store.slots(), self.distances.len(), chain.len(), range) {
             Ok(ends) => self.settle(links, store, rule, ends, chain),
             Err(fault) => Answer::Refused(fault),
         }

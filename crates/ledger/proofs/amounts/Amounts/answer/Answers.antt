@@ -14,11 +14,11 @@ returns-in-Ok g c =
     let ends = c.in-Ok.ensures.fault in
     let slots : c.slots.result ≡ log.slots = c.slots.ensures in
     let many : c.len.result ≡ length (map g.K.Kind.meaning table) = c.len.ensures ∙ sym (length-map table g.K.Kind.meaning) in
-    let none : range_fault log.slots (length (map g.K.Kind.meaning table)) (length c.args.chain.now) c.args.low c.args.high ≡ None =
-    (λ i. range_fault (sym slots i) (sym many i) (length c.args.chain.now) c.args.low c.args.high) ∙ ends.0 in
+    let none : range_fault log.slots (length (map g.K.Kind.meaning table)) (length c.args.chain.now) c.args.range.low c.args.range.high ≡ None =
+    (λ i. range_fault (sym slots i) (sym many i) (length c.args.chain.now) c.args.range.low c.args.range.high) ∙ ends.0 in
     record {
-      responds = responds_settled g.K.Kind.group log rule c.args.links.now c.settle.new.links (map g.K.Kind.meaning table) (map g.K.Kind.meaning c.settle.new.self.distances.table.now) c.args.chain.now c.settle.new.chain c.args.low c.args.high c.in-Ok.ends.low.index c.in-Ok.ends.high.index (valued_answer g.K.Kind.meaning c.settle.result) ends.1 ends.2 none c.settle.ensures.settles;
-      others = subst (λ y. SameOrJoined g.K.Kind.group g.K.Kind.meaning c.args.links.now c.settle.new.links table c.settle.new.self.distances.table.now c.args.low y) ends.2 (subst (λ x. SameOrJoined g.K.Kind.group g.K.Kind.meaning c.args.links.now c.settle.new.links table c.settle.new.self.distances.table.now x c.in-Ok.ends.high.index) ends.1 c.settle.ensures.others);
+      responds = responds_settled g.K.Kind.group log rule c.args.links.now c.settle.new.links (map g.K.Kind.meaning table) (map g.K.Kind.meaning c.settle.new.self.distances.table.now) c.args.chain.now c.settle.new.chain c.args.range.low c.args.range.high c.in-Ok.ends.low.index c.in-Ok.ends.high.index (valued_answer g.K.Kind.meaning c.settle.result) ends.1 ends.2 none c.settle.ensures.settles;
+      others = subst (λ y. SameOrJoined g.K.Kind.group g.K.Kind.meaning c.args.links.now c.settle.new.links table c.settle.new.self.distances.table.now c.args.range.low y) ends.2 (subst (λ x. SameOrJoined g.K.Kind.group g.K.Kind.meaning c.args.links.now c.settle.new.links table c.settle.new.self.distances.table.now x c.in-Ok.ends.high.index) ends.1 c.settle.ensures.others);
       unfull = c.settle.ensures.unfull;
       stays = c.settle.ensures.stays;
     }
@@ -30,10 +30,10 @@ returns-in-Err g c =
     let table = c.args.self.now.distances.table.now in
     let slots : c.slots.result ≡ log.slots = c.slots.ensures in
     let many : c.len.result ≡ length (map g.K.Kind.meaning table) = c.len.ensures ∙ sym (length-map table g.K.Kind.meaning) in
-    let some : range_fault log.slots (length (map g.K.Kind.meaning table)) (length c.args.chain.now) c.args.low c.args.high ≡ Some c.in-Err.fault =
-    (λ i. range_fault (sym slots i) (sym many i) (length c.args.chain.now) c.args.low c.args.high) ∙ c.in-Err.ensures.fault in
+    let some : range_fault log.slots (length (map g.K.Kind.meaning table)) (length c.args.chain.now) c.args.range.low c.args.range.high ≡ Some c.in-Err.fault =
+    (λ i. range_fault (sym slots i) (sym many i) (length c.args.chain.now) c.args.range.low c.args.range.high) ∙ c.in-Err.ensures.fault in
     record {
-      responds = responds_refused g.K.Kind.group log rule c.args.links.now (map g.K.Kind.meaning table) c.args.chain.now c.args.low c.args.high c.in-Err.fault some;
+      responds = responds_refused g.K.Kind.group log rule c.args.links.now (map g.K.Kind.meaning table) c.args.chain.now c.args.range.low c.args.range.high c.in-Err.fault some;
       others = inl (refl, refl);
       unfull = λ e. c.in-Err.ensures.sound (cc);
       stays = refl;

@@ -14,7 +14,7 @@ returns-then-total-ge-MOST g c =
     let self = c.args.self.now in
     let log = meant g.K.Kind.meaning (g.S.Store.log c.args.store.now) in
     let rule = rule_of (g.R.Rule.protects c.args.rule.now) (g.R.Rule.ordered c.args.rule.now) in
-    let asked = queried_full g.K.Kind.group log rule self.links (map g.K.Kind.meaning c.args.amounts.now.distances.table.now) c.args.chain.now c.args.low c.args.high self.counts (omega arith) self.within in
+    let asked = queried_full g.K.Kind.group log rule self.links (map g.K.Kind.meaning c.args.amounts.now.distances.table.now) c.args.chain.now c.args.range.low c.args.range.high self.counts (omega arith) self.within in
     record {
       asked = asked;
       faithful = stays_true g.K.Kind.group log rule _ _ _ asked;
@@ -34,9 +34,9 @@ returns g c =
     let r = c.answer-answer.result in
     let told = c.answer-answer.ensures in
     let long : length (map g.K.Kind.meaning table') ≡ length (map g.K.Kind.meaning table) =
-    length-map table' g.K.Kind.meaning ∙ same_or_joined_long g.K.Kind.group g.K.Kind.meaning self.links c.answer-answer.new.links table table' c.args.low c.args.high told.others ∙ sym (length-map table g.K.Kind.meaning) in
+    length-map table' g.K.Kind.meaning ∙ same_or_joined_long g.K.Kind.group g.K.Kind.meaning self.links c.answer-answer.new.links table table' c.args.range.low c.args.range.high told.others ∙ sym (length-map table g.K.Kind.meaning) in
     let tallied = c.add-self.ensures told.unfull ∙ sym (count_valued g.K.Kind.meaning r self.counts) in
-    let asked = queried g.K.Kind.group log rule self.links c.answer-answer.new.links (map g.K.Kind.meaning table) (map g.K.Kind.meaning table') c.args.chain.now c.answer-answer.new.chain c.args.low c.args.high (valued_answer g.K.Kind.meaning r) self.counts c.add-self.result (λ e. omega arith) tallied long told.responds in
+    let asked = queried g.K.Kind.group log rule self.links c.answer-answer.new.links (map g.K.Kind.meaning table) (map g.K.Kind.meaning table') c.args.chain.now c.answer-answer.new.chain c.args.range.low c.args.range.high (valued_answer g.K.Kind.meaning r) self.counts c.add-self.result (λ e. omega arith) tallied long told.responds in
     record {
       asked = asked;
       faithful = stays_true g.K.Kind.group log rule _ _ _ asked;
