@@ -30,7 +30,7 @@ table_left table (r ∷ rs) = table_left (table_after table r) rs
 module _ {R : Type 0} (protects : R → ℕ → ℕ → Bool) (ordered : (rule : R) → Ordered (protects rule)) (room : ℕ) where
   -- the call as it is made: a query brings the table as it stands, a rehearsal ends where there is no more room for answers
   abbrev pub call_made : List Step → Said R → Call
-  call_made table (Said.Query low high) = Call.Ask (record { low = low; high = high; table = table })
+  call_made table (Said.Query range) = Call.Ask (record { low = range.low; high = range.high; table = table })
   call_made table (Said.Rehearsal tries) = Call.Rehearse (map (try_of protects ordered) (take room tries.now))
 
   -- the calls as they are made one after another, each on the table that the reply before it left

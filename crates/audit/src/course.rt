@@ -29,8 +29,8 @@ fn perform<K: Kind, S: Store<K>, R: Rule, T: Rule, L: Listener<K>>(
     ensures stays { amounts.new.distances.table.ghost_name ≡ amounts.old.distances.table.ghost_name }
 {
     match call {
-        Call::Query { low, high } => {
-            let answer = ledger.query(amounts, store, rule, *low, *high, steps);
+        Call::Query(range) => {
+            let answer = ledger.query(amounts, store, rule, *range, steps);
             listener.answered(&answer, steps, ledger.counts());
         }
         Call::Rehearsal(tries) => {

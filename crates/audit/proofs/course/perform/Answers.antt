@@ -18,7 +18,7 @@ returns-in-Query g c =
     let made : List Step → Call = λ table. call_made g.T.Rule.protects g.T.Rule.ordered (length c.args.trials.now) table c.args.call.now in
     record {
       performed = performed_query g.K.Kind.group g.K.Kind.meaning (meant g.K.Kind.meaning (g.S.Store.log c.args.store.now)) (rule_of (g.R.Rule.protects c.args.rule.now) (g.R.Rule.ordered c.args.rule.now)) g.L.Listener.hears made c.args.ledger.now.links c.query-answer.new.self.links c.args.ledger.now.counts c.query-answer.new.self.counts c.counts.result c.args.listener.now c.answered.new.self
-          (map g.K.Kind.meaning c.args.amounts.now.distances.table.now) (map g.K.Kind.meaning c.query-answer.new.amounts.distances.table.now) c.args.steps.now c.query-answer.new.chain c.in-Query.low c.in-Query.high c.query-answer.result
+          (map g.K.Kind.meaning c.args.amounts.now.distances.table.now) (map g.K.Kind.meaning c.query-answer.new.amounts.distances.table.now) c.args.steps.now c.query-answer.new.chain c.in-Query.range.low c.in-Query.range.high c.query-answer.result
           (ap (λ x. call_made g.T.Rule.protects g.T.Rule.ordered (length c.args.trials.now) c.args.steps.now x) c.in-Query.is) c.counts.ensures c.query-answer.ensures.asked c.answered.ensures;
       stays = c.query-answer.ensures.stays;
     }
