@@ -1,7 +1,7 @@
 -- The law of every rule, that it protects ranges alone, and why each rule here keeps it. Assumes nothing.
 use Rattle.std.specs.Prelude.{◌≡◌, ℕ, ◌≤◌, Bool, false, ◌&&◌, ◌||◌, List, nat_lt}
 use Rattle.std.proofs.Common.{ap, ◌∙◌, le-ltb}
-use Rattle.rules.specs.declared.spans.Span.{Span}
+use Rattle.ranges.specs.declared.Range.{Range}
 use Rattle.rules.specs.Pairs.{short, up_to, spans, either}
 
 -- a pair whose low end is not below its high end is never protected
@@ -18,7 +18,7 @@ short_ordered k = only_ranges _
 pub up_to_ordered : (longest : ℕ) → Ordered (up_to longest)
 up_to_ordered longest = only_ranges _
 
-pub spans_ordered : (list : List Span) → Ordered (spans list)
+pub spans_ordered : (list : List (Range ℕ)) → Ordered (spans list)
 spans_ordered list = only_ranges _
 
 pub either_ordered : (first second : ℕ → ℕ → Bool) → Ordered first → Ordered second → Ordered (either first second)

@@ -3,6 +3,7 @@ ghost use Rattle.rules.specs.Ordered.{either_ordered};
 ghost use Rattle.rules.specs.Pairs.{Same, either};
 
 use crate::Rule;
+use ranges::Range;
 
 #[derive(Clone, Copy)]
 pub struct Joined<A, B> {
@@ -24,7 +25,7 @@ impl<A: Rule, B: Rule> Rule for Joined<A, B> {
 
     ghost ordered = { λ rule. either_ordered _ _ (A.Rule.ordered rule.first) (B.Rule.ordered rule.second) };
 
-    fn protects(&self, low: u32, high: u32) -> bool {
-        self.first.protects(low, high) || self.second.protects(low, high)
+    fn protects(&self, range: Range<u32>) -> bool {
+        self.first.protects(range) || self.second.protects(range)
     }
 }

@@ -11,8 +11,9 @@ mod spans;
 mod tests;
 
 pub use joined::Joined;
+use ranges::Range;
 pub use short::Short;
-pub use spans::{Span, Spans};
+pub use spans::Spans;
 
 // A rule means a yes or a no for each pair of numbers, and a no for each pair that is not a range.
 pub trait Rule {
@@ -21,6 +22,6 @@ pub trait Rule {
     // What each rule proves of itself. It is no law below `fn protects`, since clauses of the ledger name it, and none can name a law.
     ghost ordered: { (rule : Self) → Ordered (protects rule) };
 
-    fn protects(&self, low: u32, high: u32) -> bool
-        ensures { result ≡ protects self.now low high };
+    fn protects(&self, range: Range<u32>) -> bool
+        ensures { result ≡ protects self.now range.low range.high };
 }

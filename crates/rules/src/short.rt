@@ -3,6 +3,7 @@ ghost use Rattle.rules.specs.Ordered.{up_to_ordered};
 ghost use Rattle.rules.specs.Pairs.{Same, short, up_to};
 
 use crate::Rule;
+use ranges::Range;
 
 const LEAST: u32 = 1;
 
@@ -32,7 +33,7 @@ impl Rule for Short {
 
     ghost ordered = { λ rule. up_to_ordered rule.longest };
 
-    fn protects(&self, low: u32, high: u32) -> bool {
-        low < high && high - low <= self.longest
+    fn protects(&self, range: Range<u32>) -> bool {
+        range.low < range.high && range.high - range.low <= self.longest
     }
 }
