@@ -7,7 +7,7 @@ use Rattle.std.proofs.lemmas.List.{take_more}
 use Rattle.std.proofs.lemmas.Bool.{cases_lt}
 use Rattle.kinds.specs.Group.{Group}
 use Rattle.links.specs.declared.links.Links.{Links}
-use Rattle.links.specs.declared.step.Range.{Range}
+use Rattle.links.specs.Ranges.{Range}
 use Rattle.links.specs.declared.step.Step.{Step}
 use Rattle.links.specs.Joined.{joined}
 use Rattle.rules.specs.Ordered.{Ordered}

@@ -1,7 +1,7 @@
 -- A list of calls draws just one list of replies, every query in it has its place, and readings show only in released sums. Assumes nothing.
 use Rattle.std.proofs.Common.{◌≡◌, ℕ, List, [], ◌∷◌, ◌++◌, map, length, Some, None, Option, sym, refl, ap, ◌∙◌, subst}
 use Rattle.links.specs.declared.step.Step.{Step}
-use Rattle.links.specs.declared.step.Range.{Range}
+use Rattle.links.specs.Ranges.{Range}
 use Rattle.links.specs.Rings.{Ringless}
 use Rattle.kinds.specs.Group.{Group}
 use Rattle.stores.specs.Log.{Log}

@@ -1,7 +1,7 @@
 -- The three laws of every list of calls, and the truth of its sums and chains. Assumes nothing.
 use Rattle.std.proofs.Common.{◌≡◌, ℕ, ◌<◌, false, List, ◌∷◌, sym, refl, ◌∙◌, subst, inl, inr, arith}
 use Rattle.std.proofs.lemmas.Bool.{both_ways}
-use Rattle.links.specs.declared.step.Range.{Range}
+use Rattle.links.specs.Ranges.{Range}
 use Rattle.links.specs.Linked.{Listed, Linked}
 use Rattle.links.proofs.Labels.{linked_trans, linked_sym, linked_ways, linked_cases}
 use Rattle.kinds.specs.Group.{Group}

@@ -1,7 +1,7 @@
 -- Readings made from a potential: what is alike between linked boundaries, and any sum between unlinked ones. Assumes nothing.
 use Rattle.std.proofs.Common.{◌≡◌, ℕ, zero, suc, ◌+◌, ◌-◌, ◌≤◌, cond, List, sym, refl, ap, ◌∙◌, inl, inr, add-zero, add-suc, arith}
 use Rattle.std.proofs.lemmas.Bool.{cond-true, cond-false}
-use Rattle.links.specs.declared.step.Range.{Range}
+use Rattle.links.specs.Ranges.{Range}
 use Rattle.links.specs.Linked.{Listed, Linked}
 use Rattle.links.proofs.Labels.{linked_trans, linked_sym, linked_range, linked?, linked_true, linked_false, linked_cases}
 use Rattle.kinds.specs.Group.{Group}

@@ -1,6 +1,6 @@
 -- What the joining releases of a list of calls keep, and how they stand to the released ranges. Assumes nothing.
 use Rattle.std.proofs.Common.{◌≡◌, ℕ, ◌≤◌, ◌⊎◌, List, ◌∷◌, sym, refl, subst, inl, inr, arith}
-use Rattle.links.specs.declared.step.Range.{Range}
+use Rattle.links.specs.Ranges.{Range}
 use Rattle.links.specs.Linked.{Listed, Linked}
 use Rattle.links.proofs.Labels.{linked_range}
 use Rattle.kinds.specs.Group.{Group}

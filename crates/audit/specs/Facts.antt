@@ -1,7 +1,7 @@
 -- What else holds of every list of calls: sums and chains are true, and just one answer is drawn at each call. Assumes nothing.
 use Rattle.std.specs.Prelude.{◌≡◌, ℕ, ◌≤◌, List, [], ◌∷◌, ◌++◌}
 use Rattle.kinds.specs.Group.{Group}
-use Rattle.links.specs.declared.step.Range.{Range}
+use Rattle.links.specs.Ranges.{Range}
 use Rattle.links.specs.Rings.{Ringless}
 use Rattle.stores.specs.Log.{Log}
 use Rattle.stores.specs.Sums.{range_sum}

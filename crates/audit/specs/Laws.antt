@@ -1,6 +1,6 @@
 -- The three laws of every list of calls on a ledger, from its opening on, over one log and under one rule. Assumes nothing.
 use Rattle.std.specs.Prelude.{◌≡◌, ℕ, ◌↔◌, List, [], ◌∷◌, ◌++◌, map}
-use Rattle.links.specs.declared.step.Range.{Range}
+use Rattle.links.specs.Ranges.{Range}
 use Rattle.links.specs.Linked.{Listed}
 use Rattle.kinds.specs.Group.{Group}
 use Rattle.stores.specs.Log.{Log}

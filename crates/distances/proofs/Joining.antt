@@ -4,7 +4,7 @@ use Rattle.std.proofs.lemmas.List.{length-set, get_or-set_other}
 use Rattle.std.proofs.lemmas.Bool.{cases_eq}
 use Rattle.kinds.specs.Group.{Group}
 use Rattle.links.specs.declared.row.Row.{Row}
-use Rattle.links.specs.declared.step.Range.{Range}
+use Rattle.links.specs.Ranges.{Range}
 use Rattle.links.specs.declared.step.Step.{Step}
 use Rattle.links.specs.declared.links.Links.{Links}
 use Rattle.links.specs.Linked.{Listed, here, onward}

@@ -1,7 +1,7 @@
 -- The joining ranges with their sums, as a list: a join puts the new range with its sum in front of the list from before.
 use Rattle.std.proofs.Common.{◌≡◌, ℕ, List, [], ◌∷◌, map, refl, ap, ◌∙◌, inl, inr}
 use Rattle.kinds.specs.Group.{Group}
-use Rattle.links.specs.declared.step.Range.{Range}
+use Rattle.links.specs.Ranges.{Range}
 use Rattle.links.specs.declared.links.Links.{Links}
 use Rattle.links.specs.Linked.{Listed}
 use Rattle.links.specs.Joined.{joined}

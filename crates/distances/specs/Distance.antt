@@ -1,7 +1,7 @@
 -- How far a boundary lies from its leader, by links and a table of values, and what that makes of a range. Assumes nothing.
 use Rattle.std.specs.Prelude.{◌≡◌, ℕ, zero, suc, cond, List, ◌==◌, slice_index_or}
 use Rattle.kinds.specs.Group.{Group}
-use Rattle.links.specs.declared.step.Range.{Range}
+use Rattle.links.specs.Ranges.{Range}
 use Rattle.links.specs.declared.step.Step.{Step}
 use Rattle.links.specs.declared.links.Links.{Links}
 use Rattle.links.specs.Chains.{Leads}

@@ -1,7 +1,7 @@
 -- What a join with a sum does to links and distances: the new range has its sum, and no other range's sum changes. Assumes nothing.
 use Rattle.std.specs.Prelude.{◌≡◌, ℕ, ◌<◌, ◌≤◌, ◌⊎◌, List, map, length, ◌≢◌, slice_index_or}
 use Rattle.kinds.specs.Group.{Group}
-use Rattle.links.specs.declared.step.Range.{Range}
+use Rattle.links.specs.Ranges.{Range}
 use Rattle.links.specs.declared.links.Links.{Links}
 use Rattle.links.specs.Linked.{Listed, Linked}
 use Rattle.links.specs.Joined.{joined}

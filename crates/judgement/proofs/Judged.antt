@@ -1,6 +1,6 @@
 -- Pairs that a range newly links lie across the sets of its two ends. Assumes nothing.
 use Rattle.std.proofs.Common.{◌≡◌, ℕ, ◌+◌, ◌<◌, Bool, false, List, length, get_or, Some, None, sym, ap, ◌∙◌, subst, inl, inr, arith}
-use Rattle.links.specs.declared.step.Range.{Range}
+use Rattle.links.specs.Ranges.{Range}
 use Rattle.links.specs.declared.links.Links.{Links}
 use Rattle.links.specs.Linked.{Linked}
 use Rattle.links.specs.Joined.{joined, leader_of}

@@ -1,6 +1,6 @@
 -- When a range links a pair anew: its ends lie on the two sides of the range. Assumes nothing.
 use Rattle.std.proofs.Common.{◌≡◌, ℕ, ◌<◌, ◌⊎◌, List, length, Some, None, Option, sym, subst, inl, inr, MatchOption}
-use Rattle.links.specs.declared.step.Range.{Range}
+use Rattle.links.specs.Ranges.{Range}
 use Rattle.links.specs.declared.step.Step.{Step}
 use Rattle.links.specs.declared.links.Links.{Links}
 use Rattle.links.specs.Linked.{Linked}

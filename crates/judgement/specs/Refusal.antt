@@ -1,6 +1,6 @@
 -- The chain that a refusal shows, as it is written into a table of steps. Assumes nothing.
 use Rattle.std.specs.Prelude.{◌≡◌, ℕ, ◌<◌, ◌≤◌, ◌⊎◌, List, ◌∷◌, length, take, drop}
-use Rattle.links.specs.declared.step.Range.{Range}
+use Rattle.links.specs.Ranges.{Range}
 use Rattle.links.specs.declared.step.Origin.TheVariants.{New}
 use Rattle.links.specs.declared.step.Step.{Step}
 use Rattle.links.specs.Linked.{Linked}

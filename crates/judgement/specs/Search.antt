@@ -1,6 +1,6 @@
 -- The search for a protected pair across two sets, over a list of leaders. Assumes nothing.
 use Rattle.std.specs.Prelude.{ℕ, suc, Bool, cond, List, [], ◌∷◌, Some, None, Option, ◌==◌, find}
-use Rattle.links.specs.declared.step.Range.{Range}
+use Rattle.links.specs.Ranges.{Range}
 
 -- where the list holds x, in ascending order, its places counted from n on
 unfoldable pub places : ℕ → List ℕ → ℕ → List ℕ

@@ -6,7 +6,7 @@ use native.Mathlib.Bridge.{le_prop}
 use Rattle.std.proofs.lemmas.List.{take_more, take_more_set}
 use Rattle.links.specs.declared.links.Links.{Links}
 use Rattle.links.specs.declared.links.join.Hung.{Hung}
-use Rattle.links.specs.declared.step.Range.{Range}
+use Rattle.links.specs.Ranges.{Range}
 use Rattle.links.specs.Join.{Made, Declined}
 use Rattle.links.specs.Joined.{joined}
 use Rattle.links.specs.Linked.{Linked}

@@ -1,7 +1,7 @@
 -- Every call has just one outcome on a ledger whose joining releases close no ring. Assumes nothing.
 use Rattle.std.proofs.Common.{◌≡◌, ℕ, zero, suc, Bool, true, false, ltb, List, [], ◌∷◌, Some, None, Option, sym, refl, ap, ◌∙◌, subst, inl, inr, arith}
 use Rattle.std.proofs.lemmas.Bool.{cases_lt, ltb-true, ltb-false}
-use Rattle.links.specs.declared.step.Range.{Range}
+use Rattle.links.specs.Ranges.{Range}
 use Rattle.links.specs.Rings.{Ringless}
 use Rattle.kinds.specs.Group.{Group}
 use Rattle.stores.specs.Log.{Log}

@@ -3,7 +3,7 @@ use Rattle.std.proofs.Common.{◌≡◌, ℕ, ◌<◌, ◌≤◌, List, [], ◌�
 use Rattle.kinds.specs.Group.{Group}
 use Rattle.links.specs.declared.links.join.Hung.{Hung}
 use Rattle.links.specs.declared.links.Links.{Links}
-use Rattle.links.specs.declared.step.Range.{Range}
+use Rattle.links.specs.Ranges.{Range}
 use Rattle.links.specs.Joined.{joined}
 use Rattle.links.specs.Linked.{Linked}
 use Rattle.distances.specs.Kept.{Laid, Untouched}

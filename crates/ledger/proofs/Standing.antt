@@ -1,7 +1,7 @@
 -- What the joining releases keep when a query is asked. Assumes nothing.
 use Rattle.std.proofs.Common.{◌≡◌, ℕ, ◌<◌, ◌≤◌, Bool, true, false, cond, eqb, ltb, leb, ◌⊎◌, List, [], ◌∷◌, length, Some, None, Option, sym, refl, subst, inl, inr, arith}
 use Rattle.std.proofs.lemmas.Bool.{ltb-false, leb-false}
-use Rattle.links.specs.declared.step.Range.{Range}
+use Rattle.links.specs.Ranges.{Range}
 use Rattle.links.specs.Linked.{Listed, Linked}
 use Rattle.links.proofs.Labels.{linked_sym, linked_cases}
 use Rattle.kinds.specs.Group.{Group}

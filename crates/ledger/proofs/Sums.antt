@@ -1,6 +1,6 @@
 -- Sums of stretches as differences of a potential, and readings made from one. Assumes nothing.
 use Rattle.std.proofs.Common.{◌≡◌, ℕ, zero, suc, ◌+◌, ◌-◌, ◌≤◌, List, [], ◌∷◌, sym, ap, ◌∙◌, add-zero, add-suc, zero-add, arith}
-use Rattle.links.specs.declared.step.Range.{Range}
+use Rattle.links.specs.Ranges.{Range}
 use Rattle.links.specs.declared.step.Sign.{Sign}
 use Rattle.links.specs.declared.step.Sign.TheVariants.{Plus, Minus}
 use Rattle.links.specs.declared.step.Step.{Step}

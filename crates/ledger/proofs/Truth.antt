@@ -1,7 +1,7 @@
 -- Released sums are sums of readings, chains sum to the stretch they lead over, and no ring is closed. Assumes nothing.
 use Rattle.std.proofs.Common.{◌≡◌, ℕ, suc, ◌<◌, ◌≤◌, true, false, eqb, ◌⊎◌, List, [], ◌∷◌, map, length, sym, refl, ap, ◌∙◌, subst, inl, inr, arith}
 use Rattle.std.proofs.lemmas.Bool.{both_ways, cases_Bool, cond-true, cond-false, eqb-true, eq-eqb, and_parts, and_from}
-use Rattle.links.specs.declared.step.Range.{Range}
+use Rattle.links.specs.Ranges.{Range}
 use Rattle.links.specs.declared.step.Origin.{Origin}
 use Rattle.links.specs.declared.step.Origin.TheVariants.{Released, New}
 use Rattle.links.specs.declared.step.Sign.{Sign}

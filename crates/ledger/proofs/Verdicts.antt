@@ -1,7 +1,7 @@
 -- A range has just one verdict, whatever the rule, where the joined ranges close no ring. Assumes nothing.
 use Rattle.std.proofs.Common.{◌≡◌, ℕ, zero, suc, ◌<◌, ◌≤◌, max, Bool, true, false, cond, not, ◌&&◌, ltb, ◌⊎◌, List, [], ◌∷◌, Some, None, Option, refl, ap, ◌∙◌, subst, inl, inr, arith}
 use Rattle.std.proofs.lemmas.Bool.{cases_lt, cases_Bool, both_ways, and_parts, and_from, ltb-true, lt-ltb, not-true, not_from_false, cond_both}
-use Rattle.links.specs.declared.step.Range.{Range}
+use Rattle.links.specs.Ranges.{Range}
 use Rattle.links.specs.Linked.{Listed, Linked}
 use Rattle.links.specs.Chains.{Chain}
 use Rattle.links.specs.Rings.{Ringless}

@@ -1,6 +1,6 @@
 -- How a range is judged, by the ranges joined so far and a rule; no reading is looked at. Assumes nothing.
 use Rattle.std.specs.Prelude.{◌≡◌, ℕ, false, List}
-use Rattle.links.specs.declared.step.Range.{Range}
+use Rattle.links.specs.Ranges.{Range}
 use Rattle.links.specs.declared.step.Step.{Step}
 use Rattle.links.specs.Linked.{Linked}
 use Rattle.links.specs.Chains.{Chain}

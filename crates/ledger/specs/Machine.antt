@@ -1,6 +1,6 @@
 -- The step machine of a ledger: what a query and a rehearsal answer, and what they leave. Assumes nothing.
 use Rattle.std.specs.Prelude.{◌≡◌, ℕ, Bool, cond, ◌&&◌, List, [], ◌∷◌, ◌++◌, length, drop, Some, None, Option, ◌==◌, nat_le, nat_lt}
-use Rattle.links.specs.declared.step.Range.{Range}
+use Rattle.links.specs.Ranges.{Range}
 use Rattle.links.specs.declared.step.Step.{Step}
 use Rattle.distances.specs.Sums.{chain_sum}
 use Rattle.kinds.specs.Group.{Group}

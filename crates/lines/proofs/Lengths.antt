@@ -5,7 +5,7 @@ use Rattle.std.specs.Fmt.{digit_glyph, digits_onto, digits}
 use Rattle.std.proofs.lemmas.Fmt.{length-decimal-le}
 use Rattle.std.proofs.lemmas.Bool.{cond_both}
 use Rattle.kinds.specs.Codec.{Codec, Within}
-use Rattle.links.specs.declared.step.Range.{Range}
+use Rattle.links.specs.Ranges.{Range}
 use Rattle.links.specs.declared.step.Sign.{Sign}
 use Rattle.links.specs.declared.step.Origin.{Origin}
 use Rattle.links.specs.declared.step.Step.{Step}

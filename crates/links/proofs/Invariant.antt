@@ -1,7 +1,7 @@
 -- The links' own invariant as one fact, and what it says of leaders and joined ranges.
 use Rattle.std.proofs.Common.{◌≡◌, ℕ, zero, suc, ◌<◌, ◌≤◌, eqb, List, sym, subst, ⊎_elim, arith}
 use Rattle.std.proofs.lemmas.Bool.{cases_lt, cond_both}
-use Rattle.links.specs.declared.step.Range.{Range}
+use Rattle.links.specs.Ranges.{Range}
 use Rattle.links.specs.declared.step.Step.{Step}
 use Rattle.links.specs.declared.row.Row.{Row}
 use Rattle.links.specs.declared.links.Links.{Links}

@@ -1,7 +1,7 @@
 -- Linked boundaries: an equivalence, decided by labels, and what one more range adds. Assumes nothing.
 use Rattle.std.proofs.Common.{◌≡◌, ℕ, Bool, true, false, cond, eqb, ◌⊎◌, List, [], ◌∷◌, sym, refl, ap, ◌∙◌, subst, inl, inr}
 use Rattle.std.proofs.lemmas.Bool.{eqb-true, eq-eqb, ne_eqb, cases_eq, cond-true, cond-false}
-use Rattle.links.specs.declared.step.Range.{Range}
+use Rattle.links.specs.Ranges.{Range}
 use Rattle.links.specs.Linked.{Listed, Ends, Linked}
 
 pub linked_trans : {js : List Range} {i j k : ℕ} → Linked js i j → Linked js j k → Linked js i k

@@ -1,7 +1,7 @@
 -- Where ranges close no ring, chains between the same two boundaries go over the same ranges the same way.
 use Rattle.std.proofs.Common.{◌≡◌, ℕ, ◌⊎◌, List, [], ◌∷◌, ◌++◌, map, sym, refl, ap, ◌∙◌, subst, inl, inr, ⊎_elim}
 use Rattle.std.proofs.lemmas.List.{map-append}
-use Rattle.links.specs.declared.step.Range.{Range}
+use Rattle.links.specs.Ranges.{Range}
 use Rattle.links.specs.declared.step.Sign.{Sign}
 use Rattle.links.specs.declared.step.Sign.TheVariants.{Plus, Minus}
 use Rattle.links.specs.declared.step.Step.{Step}

@@ -1,6 +1,6 @@
 -- Chains: signed steps over listed ranges, end to end, that meet no boundary twice. Assumes nothing.
 use Rattle.std.specs.Prelude.{◌≡◌, ℕ, List, [], ◌∷◌, map, ◌≢◌}
-use Rattle.links.specs.declared.step.Range.{Range}
+use Rattle.links.specs.Ranges.{Range}
 use Rattle.links.specs.declared.step.Sign.{Sign}
 use Rattle.links.specs.declared.step.Sign.TheVariants.{Plus, Minus}
 use Rattle.links.specs.declared.step.Origin.{Origin}

@@ -1,6 +1,6 @@
 -- A forest of sets that grew by joins: join s hung the leader `under s` below the leader `over s`. Assumes nothing.
 use Rattle.std.specs.Prelude.{ℕ, zero, suc, ◌+◌, Bool, cond, List, [], ◌∷◌, ◌++◌, ◌==◌, nat_eq}
-use Rattle.links.specs.declared.step.Range.{Range}
+use Rattle.links.specs.Ranges.{Range}
 use Rattle.links.specs.declared.step.Sign.{Sign}
 use Rattle.links.specs.declared.step.Sign.TheVariants.{Plus, Minus}
 use Rattle.links.specs.declared.step.Step.{Step}

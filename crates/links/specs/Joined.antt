@@ -1,6 +1,6 @@
 -- What links stand for: the joining ranges, and of each boundary its leader, its parent and its set's size. Assumes nothing.
 use Rattle.std.specs.Prelude.{◌≡◌, ℕ, ◌-◌, ◌<◌, List}
-use Rattle.links.specs.declared.step.Range.{Range}
+use Rattle.links.specs.Ranges.{Range}
 use Rattle.links.specs.declared.links.Links.{Links}
 use Rattle.links.specs.declared.row.Row.{Row}
 use Rattle.links.specs.Linked.{Linked}

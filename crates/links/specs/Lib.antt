@@ -1,4 +1,5 @@
 -- What the contracts of the links speak of.
+pub mod Ranges
 pub mod Linked
 pub mod Chains
 pub mod Forest

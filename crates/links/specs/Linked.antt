@@ -1,6 +1,6 @@
 -- Which boundaries a list of ranges links. Assumes nothing.
 use Rattle.std.specs.Prelude.{◌≡◌, ℕ, ◌⊎◌, List, [], ◌∷◌}
-use Rattle.links.specs.declared.step.Range.{Range}
+use Rattle.links.specs.Ranges.{Range}
 
 -- r is one of the listed ranges
 abbrev pub Listed : Range → List Range → Type 0

@@ -1,6 +1,6 @@
 -- Lists of ranges that close no ring, and the one chain between two boundaries that they link. Assumes nothing.
 use Rattle.std.specs.Prelude.{◌≡◌, ℕ, suc, List, [], ◌∷◌, map}
-use Rattle.links.specs.declared.step.Range.{Range}
+use Rattle.links.specs.Ranges.{Range}
 use Rattle.links.specs.declared.step.Sign.{Sign}
 use Rattle.links.specs.declared.step.Origin.{Origin}
 use Rattle.links.specs.declared.step.Origin.TheVariants.{Released, New}

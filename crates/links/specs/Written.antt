@@ -1,6 +1,6 @@
 -- Steps written into a table: what stood before and after them stays. Assumes nothing.
 use Rattle.std.specs.Prelude.{◌≡◌, ℕ, ◌+◌, ◌<◌, ◌≤◌, ◌⊎◌, List, ◌++◌, length, take, drop}
-use Rattle.links.specs.declared.step.Range.{Range}
+use Rattle.links.specs.Ranges.{Range}
 use Rattle.links.specs.declared.step.Step.{Step}
 use Rattle.links.specs.Linked.{Linked}
 use Rattle.links.specs.Chains.{Chain}

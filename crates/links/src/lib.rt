@@ -12,4 +12,4 @@ mod tests;
 pub use boundary::{BOUNDARIES, Boundary, NoBoundary};
 pub use links::{Hung, Links};
 pub use provisional::Provisional;
-pub use step::{Origin, Range, Sign, Step};
+pub use step::{Origin, Sign, Step};

@@ -4,6 +4,7 @@ ghost use Rattle.links.specs.Join.{Made, Declined};
 
 use crate::boundary::Boundary;
 use crate::links::{Hung, Links};
+use ranges::Range;
 use std::mem::replace;
 
 // The links that it borrows may be joined further. When it ends, by whatever way out, they hold what they held before.
@@ -30,12 +31,12 @@ impl<'a> Provisional<'a> {
     }
 
     // Joins as the links themselves do, until the guard ends.
-    pub fn join(&mut self, a: Boundary, b: Boundary) -> Option<Hung>
-        ensures cases { MatchOption result (Declined self.old.links.now self.new.links.now a.index b.index) (λ h. Made self.old.links.now self.new.links.now a.index b.index h.leader.index h.under.index) }
+    pub fn join(&mut self, range: Range<Boundary>) -> Option<Hung>
+        ensures cases { MatchOption result (Declined self.old.links.now self.new.links.now range.low.index range.high.index) (λ h. Made self.old.links.now self.new.links.now range.low.index range.high.index h.leader.index h.under.index) }
         ensures stays { self.new.links.ghost_name ≡ self.old.links.ghost_name }
         ensures saved { self.new.saved ≡ self.old.saved }
     {
-        self.links.join(a, b)
+        self.links.join(range)
     }
 }
 

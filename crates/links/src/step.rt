@@ -1,11 +1,4 @@
-// A range by its two boundaries, and one step of a chain over ranges.
-
-// The slots from `low` up to but not including `high`.
-#[derive(Clone, Copy, Debug, PartialEq, Eq)]
-pub struct Range {
-    pub low: u16,
-    pub high: u16,
-}
+// One step of a chain over ranges of boundaries.
 
 // Which way a step goes over its range: `Plus` from the low to the high end, `Minus` back.
 #[derive(Clone, Copy, Debug, Default, PartialEq, Eq)]

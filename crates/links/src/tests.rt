@@ -1,7 +1,10 @@
 // Joins, leaders and chains on examples.
+ghost use Rattle.std.specs.Prelude.{◌<◌};
+
 use crate::boundary::{Boundary, NoBoundary};
 use crate::links::{Hung, Links};
 use crate::step::{Origin, Sign, Step};
+use ranges::Range;
 
 const BLANK: Step = Step {
     low: 7,
@@ -9,6 +12,16 @@ const BLANK: Step = Step {
     sign: Sign::Minus,
     origin: Origin::New,
 };
+
+fn range(low: u16, high: u16) -> Range<Boundary>
+    requires low { low < 1024 }
+    requires high { high < 1024 }
+{
+    Range {
+        low: Boundary::at(low),
+        high: Boundary::at(high),
+    }
+}
 
 // The numbers of the hung leader and of the one above it.
 fn pair(hung: Option<Hung>) -> Option<(u16, u16)> {
@@ -26,10 +39,10 @@ fn boundaries_are_below_1024(rt: HostRuntime) {
 #[test]
 fn smaller_set_goes_under_larger(rt: HostRuntime) {
     let mut links = Links::new();
-    let tie = pair(links.join(Boundary::at(0), Boundary::at(4)));
-    let smaller = pair(links.join(Boundary::at(3), Boundary::at(4)));
-    let linked = pair(links.join(Boundary::at(0), Boundary::at(3)));
-    let backwards = pair(links.join(Boundary::at(9), Boundary::at(8)));
+    let tie = pair(links.join(range(0, 4)));
+    let smaller = pair(links.join(range(3, 4)));
+    let linked = pair(links.join(range(0, 3)));
+    let backwards = pair(links.join(range(9, 8)));
     let same = links.linked(Boundary::at(3), Boundary::at(0));
     let other = links.linked(Boundary::at(8), Boundary::at(9));
     let leader = links.leader(Boundary::at(3)).index();
@@ -46,8 +59,8 @@ fn smaller_set_goes_under_larger(rt: HostRuntime) {
 #[test]
 fn chain_goes_over_joined_ranges(rt: HostRuntime) {
     let mut links = Links::new();
-    let _ = links.join(Boundary::at(0), Boundary::at(5));
-    let _ = links.join(Boundary::at(1), Boundary::at(5));
+    let _ = links.join(range(0, 5));
+    let _ = links.join(range(1, 5));
     let mut table = [BLANK; 1023];
     let len = links.chain(Boundary::at(0), Boundary::at(1), &mut table);
     let apart = links.chain(Boundary::at(0), Boundary::at(2), &mut table);
@@ -77,7 +90,7 @@ fn chain_goes_over_joined_ranges(rt: HostRuntime) {
 fn longest_chain_has_1023_steps(rt: HostRuntime) {
     let mut links = Links::new();
     for i in 0..1023u16 {
-        let _ = links.join(Boundary::at(i), Boundary::at(i + 1));
+        let _ = links.join(range(i, i + 1));
     }
     let mut table = [BLANK; 1023];
     let len = links.chain(Boundary::at(1023), Boundary::at(0), &mut table);

@@ -4,7 +4,7 @@ use lib.Seq.{take-append_seam}
 use Rattle.kinds.specs.Group.{Group}
 use Rattle.links.specs.declared.step.Origin.{Origin}
 use Rattle.links.specs.declared.step.Origin.TheVariants.{Released, New}
-use Rattle.links.specs.declared.step.Range.{Range}
+use Rattle.links.specs.Ranges.{Range}
 use Rattle.links.specs.declared.step.Step.{Step}
 use Rattle.links.specs.Chains.{range_of, Source, Sourced}
 use Rattle.stores.specs.Log.{Log}

@@ -7,6 +7,7 @@ use super::Links;
 use crate::boundary::Boundary;
 use crate::row::{Edge, Row};
 use crate::step::Sign;
+use ranges::Range;
 
 // `leader` was hung under `under`.
 #[derive(Clone, Copy)]
@@ -49,18 +50,18 @@ impl Links {
         self.joins += 1;
     }
 
-    // Joins the sets of `a` and `b` by the range (a, b): the leader of the smaller set is hung under the other, at equal sizes the higher
+    // Joins the sets of the range's ends by it: the leader of the smaller set is hung under the other, at equal sizes the higher
     // number under the lower. A pair that is no range, or whose ends are linked already, joins nothing.
-    pub fn join(&mut self, a: Boundary, b: Boundary) -> Option<Hung>
-        ensures { MatchOption result (Declined self.old self.new a.index b.index) (λ h. Made self.old self.new a.index b.index h.leader.index h.under.index) }
+    pub fn join(&mut self, range: Range<Boundary>) -> Option<Hung>
+        ensures { MatchOption result (Declined self.old self.new range.low.index range.high.index) (λ h. Made self.old self.new range.low.index range.high.index h.leader.index h.under.index) }
     {
-        let low = a.index();
-        let high = b.index();
+        let low = range.low.index();
+        let high = range.high.index();
         if high <= low {
             return None;
         }
-        let x = self.leader(a);
-        let y = self.leader(b);
+        let x = self.leader(range.low);
+        let y = self.leader(range.high);
         if x == y {
             return None;
         }

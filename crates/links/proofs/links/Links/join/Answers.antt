@@ -5,7 +5,7 @@ use Rattle.links.proofs.links.Links.join.Goals as goal
 
 pub hang-requires : goal.hang-requires
 hang-requires c =
-    joins_up c.args.self.now c.args.a.index c.args.b.index c.index-low.result c.index-high.result
+    joins_up c.args.self.now c.args.range.low.index c.args.range.high.index c.index-low.result c.index-high.result
     c.leader-x.result.index c.leader-y.result.index c.index-low.ensures.value c.index-high.ensures.value
     c.leader-x.ensures.value c.leader-y.ensures.value c.leader-x.result.below c.leader-y.result.below
     (search rules) c.if-high-low.false
@@ -13,7 +13,7 @@ hang-requires c =
 
 pub hang-requires-else-yields : goal.hang-requires-else-yields
 hang-requires-else-yields c =
-    joins_down c.args.self.now c.args.a.index c.args.b.index c.index-low.result c.index-high.result
+    joins_down c.args.self.now c.args.range.low.index c.args.range.high.index c.index-low.result c.index-high.result
     c.leader-x.result.index c.leader-y.result.index c.index-low.ensures.value c.index-high.ensures.value
     c.leader-x.ensures.value c.leader-y.ensures.value c.leader-x.result.below c.leader-y.result.below
     (search rules) c.if-high-low.false
@@ -21,7 +21,7 @@ hang-requires-else-yields c =
 
 pub returns-then-yields : goal.returns-then-yields
 returns-then-yields c =
-    made_up c.args.self.now c.args.a.index c.args.b.index c.index-low.result c.index-high.result
+    made_up c.args.self.now c.args.range.low.index c.args.range.high.index c.index-low.result c.index-high.result
     c.leader-x.result.index c.leader-y.result.index c.index-low.ensures.value c.index-high.ensures.value
     c.leader-x.ensures.value c.leader-y.ensures.value c.leader-x.result.below c.leader-y.result.below
     (search rules) c.if-high-low.false
@@ -30,7 +30,7 @@ returns-then-yields c =
 
 pub returns-else-yields : goal.returns-else-yields
 returns-else-yields c =
-    made_down c.args.self.now c.args.a.index c.args.b.index c.index-low.result c.index-high.result
+    made_down c.args.self.now c.args.range.low.index c.args.range.high.index c.index-low.result c.index-high.result
     c.leader-x.result.index c.leader-y.result.index c.index-low.ensures.value c.index-high.ensures.value
     c.leader-x.ensures.value c.leader-y.ensures.value c.leader-x.result.below c.leader-y.result.below
     (search rules) c.if-high-low.false
