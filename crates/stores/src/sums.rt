@@ -5,6 +5,7 @@ ghost use Rattle.stores.specs.Sums.{Answers, valued_sum, fault_number};
 
 use crate::store::Store;
 use kinds::Kind;
+use ranges::Range;
 use std::error::Error;
 use std::fmt;
 
@@ -55,18 +56,18 @@ impl fmt::Display for SumFault {
 
 impl Error for SumFault {}
 
-// The sum of the slots `low` to `high` - 1, read upwards.
-pub fn sum<K: Kind, S: Store<K>>(store: &S, low: usize, high: usize) -> Result<K, SumFault>
-    ensures { Answers K.Kind.group (meant K.Kind.meaning (S.Store.log store.now)) low high (valued_sum K.Kind.meaning result) }
+// The sum of the slots of a range, read upwards.
+pub fn sum<K: Kind, S: Store<K>>(store: &S, range: Range<usize>) -> Result<K, SumFault>
+    ensures { Answers K.Kind.group (meant K.Kind.meaning (S.Store.log store.now)) range.low range.high (valued_sum K.Kind.meaning result) }
 {
-    if high > store.slots() {
+    if range.high > store.slots() {
         return Err(SumFault::Refused(RangeFault::BeyondEnd));
     }
-    if low >= high {
+    if range.low >= range.high {
         return Err(SumFault::Refused(RangeFault::Empty));
     }
     let mut sum = K::zero();
-    for slot in low..high {
+    for slot in range.low..range.high {
         sum = sum.plus(store.read(slot).kept(slot)?);
     }
     Ok(sum)

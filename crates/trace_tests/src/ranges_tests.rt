@@ -1,5 +1,6 @@
 // Sums of ranges, and all slots of a store listed and packed again.
 use kinds::Wh;
+use ranges::Range;
 use std::test::Fail;
 use stores::{Lists, Packed, Plain, RangeFault, Reading, Store, SumFault, list, repack, sum};
 
@@ -31,7 +32,7 @@ fn a_range_has_a_sum_or_a_first_lost_slot(rt: HostRuntime) {
             Err(SumFault::Refused(RangeFault::BeyondEnd)),
         ),
     ] {
-        assert_eq!(rt; sum(&plain, low, high), answer);
+        assert_eq!(rt; sum(&plain, Range { low, high }), answer);
     }
     assert_eq!(rt; RangeFault::BeyondEnd.number(), 5);
     assert_eq!(rt; RangeFault::Empty.number(), 6);

@@ -2,6 +2,7 @@
 use crate::compare::difference;
 use crate::request::Stretch;
 use kinds::Kind;
+use ranges::Range;
 use std::alloc::{AllocError, Global};
 use std::fmt;
 use stores::{Packed, Plain, Reading, Store, SumFault, Window, list, repack, sum, width};
@@ -48,20 +49,20 @@ fn stretch_lines<K: Kind + fmt::Display>(
     text: &str,
     out: &mut Vec<String>,
 ) -> Result<(), AllocError> {
-    let Stretch { low, high } = match text.parse::<Stretch>() {
+    let Stretch(slots) = match text.parse::<Stretch>() {
         Ok(stretch) => stretch,
         Err(fault) => {
             out.push(format!(in heap; "stretch {text}: refused: {fault}")?)?;
             return Ok(());
         }
     };
-    let total = sum_text(heap, sum(&packed, low, high))?;
-    out.push(format!(in heap; "stretch {low}..{high}: {total}")?)?;
-    let total = sum_text(heap, sum(&plain, low, high))?;
+    let total = sum_text(heap, sum(&packed, slots))?;
+    out.push(format!(in heap; "stretch {}..{}: {total}", slots.low, slots.high)?)?;
+    let total = sum_text(heap, sum(&plain, slots))?;
     out.push(format!(in heap; "  as a list: {total}")?)?;
-    let length = high.saturating_sub(low);
-    let window = Window::new(packed, low, length);
-    let total = sum_text(heap, sum(&window, 0, length))?;
+    let length = slots.high.saturating_sub(slots.low);
+    let window = Window::new(packed, slots.low, length);
+    let total = sum_text(heap, sum(&window, Range { low: 0, high: length }))?;
     out.push(format!(in heap; "  through a window: {total}")?)?;
     Ok(())
 }

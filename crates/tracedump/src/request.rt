@@ -5,18 +5,16 @@ ghost use Rattle.tracedump.specs.Names.{Asked};
 ghost use Rattle.tracedump.specs.declared.request.Refusal.TheVariants.{NoInput, TooLong};
 
 use kinds::KindName;
+use ranges::Range;
 use std::str::FromStr;
 use thiserror::Error;
 
 // A trace has at most 1 MiB: just under six years of quarter hours at five bytes a slot.
 pub const MOST: usize = 1_048_576;
 
-// The slots from `low` up to but not including `high`.
+// The slots that a word LOW..HIGH names.
 #[derive(Clone, Copy, Debug, PartialEq, Eq)]
-pub struct Stretch {
-    pub low: usize,
-    pub high: usize,
-}
+pub struct Stretch(pub Range<usize>);
 
 // A word that is no stretch.
 #[derive(Clone, Copy, Debug, PartialEq, Eq, Error)]
@@ -28,10 +26,10 @@ impl FromStr for Stretch {
 
     fn from_str(text: &str) -> Result<Stretch, NoStretch> {
         let (low, high) = text.split_once("..").ok_or(NoStretch)?;
-        Ok(Stretch {
+        Ok(Stretch(Range {
             low: low.parse().map_err(|_| NoStretch)?,
             high: high.parse().map_err(|_| NoStretch)?,
-        })
+        }))
     }
 }
 

@@ -24,6 +24,6 @@ loop-slot-preserved g c =
     let told = value_tells log slot _ within (sym value ∙ c.read.ensures) in (
       omega arith,
       omega arith,
-      kept_more log c.args.low slot inv.2 told.0,
-      c.plus-sum.ensures ∙ (λ i. g.K.Kind.group.plus (inv.3 i) (told.1 i)) ∙ sym (sum_more g.K.Kind.group log.reading c.args.low slot inv.0),
+      kept_more log c.args.range.low slot inv.2 told.0,
+      c.plus-sum.ensures ∙ (λ i. g.K.Kind.group.plus (inv.3 i) (told.1 i)) ∙ sym (sum_more g.K.Kind.group log.reading c.args.range.low slot inv.0),
     )
