@@ -10,15 +10,15 @@ use crate::piece::{Each, Piece, Text};
 use crate::sums::sum_line;
 use kinds::Kind;
 use ledger::Answer;
-use links::{Range, Step};
+use links::Step;
+use ranges::Range;
 
-fn withheld_line(out: &mut [u8], low: u32, high: u32, pair: Range, chain: &[Step]) -> Option<usize>
-    ensures { Wrote (withheld_line low high pair chain.now) out.old out.new result }
+fn withheld_line(out: &mut [u8], range: Range<u32>, pair: Range<u16>, chain: &[Step]) -> Option<usize>
+    ensures { Wrote (withheld_line range.low range.high pair chain.now) out.old out.new result }
 {
     let opening = Pair {
         opening: b"(withheld",
-        low,
-        high,
+        range,
         pair,
         closing: b") (chain",
     };
@@ -33,37 +33,35 @@ fn first(table: &[Step], count: usize) -> &[Step]
 }
 
 // A word, the range asked for and a number.
-fn numbered_line(out: &mut [u8], opening: &[u8], low: u32, high: u32, number: u64) -> Option<usize>
-    ensures { Wrote (form_text opening.now (low ∷ high ∷ number ∷ []) (codes ")\n")) out.old out.new result }
+fn numbered_line(out: &mut [u8], opening: &[u8], range: Range<u32>, number: u64) -> Option<usize>
+    ensures { Wrote (form_text opening.now (range.low ∷ range.high ∷ number ∷ []) (codes ")\n")) out.old out.new result }
 {
-    let numbers = [u64::from(low), u64::from(high), number];
+    let numbers = [u64::from(range.low), u64::from(range.high), number];
     Text(opening)
         .then(Each(&numbers))
         .then(Text(b")\n"))
         .put(out)
 }
 
-// Writes the line of what a ledger of a kind answered to the query (low, high); `table` has the chain of a withheld one in its first steps.
+// Writes the line of what a ledger of a kind answered to a query of the range; `table` has the chain of a withheld one in its first steps.
 pub fn answer_line<K: Kind>(
     out: &mut [u8],
-    low: u32,
-    high: u32,
+    range: Range<u32>,
     answer: &Answer<K>,
     table: &[Step],
 ) -> Option<usize>
-    ensures text { Wrote (answer_line K.Kind.NAME K.Kind.numbers low high (valued_answer K.Kind.meaning answer.now) table.now) out.old out.new result }
-    ensures whole { ModestAnswer answer.now table.now → Whole (answer_line K.Kind.NAME K.Kind.numbers low high (valued_answer K.Kind.meaning answer.now) table.now) out.old result }
+    ensures text { Wrote (answer_line K.Kind.NAME K.Kind.numbers range.low range.high (valued_answer K.Kind.meaning answer.now) table.now) out.old out.new result }
+    ensures whole { ModestAnswer answer.now table.now → Whole (answer_line K.Kind.NAME K.Kind.numbers range.low range.high (valued_answer K.Kind.meaning answer.now) table.now) out.old result }
 {
     match answer {
-        Answer::Released(value) => sum_line(out, low, high, *value),
-        Answer::Withheld(pair, count) => withheld_line(out, low, high, *pair, first(table, *count)),
+        Answer::Released(value) => sum_line(out, range, *value),
+        Answer::Withheld(pair, count) => withheld_line(out, range, *pair, first(table, *count)),
         // Stays: `u64` has no `From<usize>`.
-        Answer::LostSlot(slot) => numbered_line(out, b"(lost", low, high, *slot as u64),
+        Answer::LostSlot(slot) => numbered_line(out, b"(lost", range, *slot as u64),
         Answer::Refused(fault) => numbered_line(
             out,
             b"(refused",
-            low,
-            high,
+            range,
             u64::from(fault.number()),
         ),
     }

@@ -1,9 +1,10 @@
 // The pieces that a line is made of: each writes its text into a lent buffer, from its start on, as much as fits.
-ghost use Rattle.std.specs.Prelude.{◌≡◌, ℕ, List, ◌++◌, decimal};
+ghost use Rattle.std.specs.Prelude.{◌≡◌, ℕ, List, [], ◌∷◌, ◌++◌, decimal};
 ghost use Rattle.std.specs.List.{flat_map};
 ghost use Rattle.lines.specs.Text.{Wrote, number_text};
 
 use itoa::Buffer;
+use ranges::Range;
 
 pub trait Piece {
     // What is written of it.
@@ -107,5 +108,14 @@ impl Piece for u32 {
 
     fn put(&self, out: &mut [u8]) -> Option<usize> {
         u64::from(*self).put(out)
+    }
+}
+
+// Of a range the two ends.
+impl<N: Piece> Piece for Range<N> {
+    ghost text = { λ it. flat_map N.Piece.text (it.low ∷ it.high ∷ []) };
+
+    fn put(&self, out: &mut [u8]) -> Option<usize> {
+        (&self.low).then(&self.high).put(out)
     }
 }

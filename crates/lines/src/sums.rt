@@ -5,17 +5,18 @@ ghost use Rattle.lines.specs.Lines.{sum_line};
 
 use crate::piece::{Each, Piece, Text};
 use kinds::Kind;
+use ranges::Range;
 
 // A value has at most 255 numbers, as many as a byte counts.
-pub(crate) fn sum_line<K: Kind>(out: &mut [u8], low: u32, high: u32, value: K) -> Option<usize>
-    ensures text { Wrote (sum_line K.Kind.NAME K.Kind.numbers low high (K.Kind.meaning value)) out.old out.new result }
+pub(crate) fn sum_line<K: Kind>(out: &mut [u8], range: Range<u32>, value: K) -> Option<usize>
+    ensures text { Wrote (sum_line K.Kind.NAME K.Kind.numbers range.low range.high (K.Kind.meaning value)) out.old out.new result }
     ensures few { K.Kind.numbers.size ≤ 255 }
 {
     let mut table = [0; 255];
     let row = &mut table[..usize::from(K::NUMBERS)];
     let _ = value.write_numbers(row);
     Text(b"(sum")
-        .then(Each(&[low, high]))
+        .then(range)
         .then(Text(b" ("))
         .then(K::NAME)
         .then(Each(row))

@@ -7,6 +7,7 @@ ghost use Rattle.lines.specs.Fits.{RehearsalsFit};
 use crate::pairs::Pair;
 use crate::piece::{Each, Piece, Text};
 use ledger::Trial;
+use ranges::Range;
 
 const OPENING: &[u8] = b"(rehearsed";
 
@@ -33,23 +34,21 @@ pub fn begin_rehearsed(out: &mut [u8]) -> Option<usize>
 
 // Writes a try and what was answered, after a blank, into the rest of the line.
 #[tactic(auto, using(crate::proofs::Lengths::trial_long))]
-pub fn write_trial(out: &mut [u8], low: u32, high: u32, trial: Trial) -> Option<usize>
-    ensures text { Wrote (trial_text low high trial) out.old out.new result }
-    ensures short { length (trial_text low high trial) ≤ 279 }
+pub fn write_trial(out: &mut [u8], range: Range<u32>, trial: Trial) -> Option<usize>
+    ensures text { Wrote (trial_text range.low range.high trial) out.old out.new result }
+    ensures short { length (trial_text range.low range.high trial) ≤ 279 }
 {
-    let ends = [low, high];
     match trial {
-        Trial::Free => Text(b" (free").then(Each(&ends)).then(Text(b")")).put(out),
+        Trial::Free => Text(b" (free").then(range).then(Text(b")")).put(out),
         Trial::Withheld(pair) => Pair {
             opening: b" (withheld",
-            low,
-            high,
+            range,
             pair,
             closing: b"))",
         }
         .put(out),
         Trial::Refused(fault) => Text(b" (refused")
-            .then(Each(&[low, high, u32::from(fault.number())]))
+            .then(Each(&[range.low, range.high, u32::from(fault.number())]))
             .then(Text(b")"))
             .put(out),
     }

@@ -15,7 +15,7 @@ use Rattle.lines.specs.Lines.{answer_line}
 
 -- the two ends of a try
 abbrev pub ends_of : {R : Type 0} → Try R → ℕ × ℕ
-ends_of t = (t.low, t.high)
+ends_of t = (t.range.low, t.range.high)
 
 -- a query was asked of the ledger, and the line of its answer put
 pub record AskedAndPrinted {V S : Type 0} (G : Group V) (codec : Codec (2 ^ 32) V) (kind : KindName) (log : Log V) (rule : Rule) (puts : S → List ℕ → S → Type 0) (links links' : Links) (table table' : List V) (counts counts' : Counts) (steps steps' : List Step) (low high : ℕ) (s s' : S) : Type 0 where

@@ -10,6 +10,7 @@ use crate::sink::Sink;
 use kinds::Kind;
 use ledger::{Amounts, Ledger};
 use links::Step;
+use ranges::Range;
 use rules::Rule;
 use stores::Store;
 
@@ -20,21 +21,19 @@ pub(crate) fn ask<K: Kind, T: Store<K>, R: Rule, S: Sink>(
     store: &T,
     rule: &R,
     steps: &mut [Step],
-    low: u32,
-    high: u32,
+    range: Range<u32>,
     printer: &mut Printer<'_, S>,
 )
     requires steps { length steps.old ≡ 1023 }
     requires faithful { TrueTo K.Kind.group (meant K.Kind.meaning (T.Store.log store.now)) (rule_of (R.Rule.protects rule.now) (R.Rule.ordered rule.now)) (releases_of K.Kind.group ledger.old.links (map K.Kind.meaning amounts.old.distances.table.now)) }
     ensures faithful { TrueTo K.Kind.group (meant K.Kind.meaning (T.Store.log store.now)) (rule_of (R.Rule.protects rule.now) (R.Rule.ordered rule.now)) (releases_of K.Kind.group ledger.new.links (map K.Kind.meaning amounts.new.distances.table.now)) }
-    ensures asked { AskedAndPrinted K.Kind.group K.Kind.numbers K.Kind.NAME (meant K.Kind.meaning (T.Store.log store.now)) (rule_of (R.Rule.protects rule.now) (R.Rule.ordered rule.now)) S.Sink.puts ledger.old.links ledger.new.links (map K.Kind.meaning amounts.old.distances.table.now) (map K.Kind.meaning amounts.new.distances.table.now) ledger.old.counts ledger.new.counts steps.old steps.new low high printer.old.sink.now printer.new.sink.now }
+    ensures asked { AskedAndPrinted K.Kind.group K.Kind.numbers K.Kind.NAME (meant K.Kind.meaning (T.Store.log store.now)) (rule_of (R.Rule.protects rule.now) (R.Rule.ordered rule.now)) S.Sink.puts ledger.old.links ledger.new.links (map K.Kind.meaning amounts.old.distances.table.now) (map K.Kind.meaning amounts.new.distances.table.now) ledger.old.counts ledger.new.counts steps.old steps.new range.low range.high printer.old.sink.now printer.new.sink.now }
     ensures stays { amounts.new.distances.table.ghost_name ≡ amounts.old.distances.table.ghost_name }
     ensures told { printer.new.sink.ghost_name ≡ printer.old.sink.ghost_name }
 {
-    let answer = ledger.query(amounts, store, rule, low, high, steps);
+    let answer = ledger.query(amounts, store, rule, range, steps);
     let told = AnswerLine {
-        low,
-        high,
+        range,
         answer: &answer,
         table: steps,
     };

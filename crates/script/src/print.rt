@@ -10,6 +10,7 @@ use kinds::Kind;
 use ledger::{Answer, Counts};
 use lines::{ScriptFault, Short, answer_line, closed_line, fault_line, has_room, tally_line};
 use links::Step;
+use ranges::Range;
 
 // What is printed as one line; the line buffer holds it where it is modest.
 pub(crate) trait Line {
@@ -55,19 +56,18 @@ impl<'a, S: Sink> Printer<'a, S> {
 // What a ledger answered to a query, with the table that has the chain of a withheld one in its first steps.
 #[derive(Clone, Copy)]
 pub(crate) struct AnswerLine<'a, K> {
-    pub(crate) low: u32,
-    pub(crate) high: u32,
+    pub(crate) range: Range<u32>,
     pub(crate) answer: &'a Answer<K>,
     pub(crate) table: &'a [Step],
 }
 
 impl<K: Kind> Line for AnswerLine<'_, K> {
-    ghost text = { λ it. answer_line K.Kind.NAME K.Kind.numbers it.low it.high (valued_answer K.Kind.meaning it.answer.now) it.table.now };
+    ghost text = { λ it. answer_line K.Kind.NAME K.Kind.numbers it.range.low it.range.high (valued_answer K.Kind.meaning it.answer.now) it.table.now };
 
     ghost modest = { λ it. ModestAnswer it.answer.now it.table.now };
 
     fn write(&self, out: &mut [u8]) -> Option<usize> {
-        answer_line(out, self.low, self.high, self.answer, self.table)
+        answer_line(out, self.range, self.answer, self.table)
     }
 }
 

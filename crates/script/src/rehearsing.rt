@@ -24,7 +24,7 @@ impl<R> Piece for Trials<'_, R> {
         // Stays: a loop beside that of `Each`, which goes over one slice; the items of an iterator are no value that `text` could name.
         let mut len = 0;
         for (tried, trial) in self.tries.iter().zip(self.trials) {
-            len += write_trial(&mut out[len..], tried.low, tried.high, *trial)?;
+            len += write_trial(&mut out[len..], tried.range, *trial)?;
         }
         Some(len)
     }

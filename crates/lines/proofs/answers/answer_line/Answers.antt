@@ -19,17 +19,17 @@ told {K} kind codec meaning low high table {buf} {now} {r} a is w fits =
 
 pub returns-in-Released-clause-whole : goal.returns-in-Released-clause-whole
 returns-in-Released-clause-whole g c =
-    told g.K.Kind.NAME g.K.Kind.numbers g.K.Kind.meaning c.args.low c.args.high c.args.table.now _ c.in-Released.is c.sum_line.ensures.text (λ _. sum_long g.K.Kind.NAME g.K.Kind.numbers c.args.low c.args.high _ c.sum_line.ensures.few)
+    told g.K.Kind.NAME g.K.Kind.numbers g.K.Kind.meaning c.args.range.low c.args.range.high c.args.table.now _ c.in-Released.is c.sum_line.ensures.text (λ _. sum_long g.K.Kind.NAME g.K.Kind.numbers c.args.range.low c.args.range.high _ c.sum_line.ensures.few)
 
 pub returns-in-Withheld-clause-whole : goal.returns-in-Withheld-clause-whole
 returns-in-Withheld-clause-whole g c =
-    told g.K.Kind.NAME g.K.Kind.numbers g.K.Kind.meaning c.args.low c.args.high c.args.table.now _ c.in-Withheld.is (called (ap (withheld_line c.args.low c.args.high c.in-Withheld.pair) c.first.ensures) c.withheld_line.ensures) (withheld_long c.args.low c.args.high c.in-Withheld.pair _)
+    told g.K.Kind.NAME g.K.Kind.numbers g.K.Kind.meaning c.args.range.low c.args.range.high c.args.table.now _ c.in-Withheld.is (called (ap (withheld_line c.args.range.low c.args.range.high c.in-Withheld.pair) c.first.ensures) c.withheld_line.ensures) (withheld_long c.args.range.low c.args.range.high c.in-Withheld.pair _)
 
 pub returns-in-LostSlot-clause-whole : goal.returns-in-LostSlot-clause-whole
 returns-in-LostSlot-clause-whole g c =
-    told g.K.Kind.NAME g.K.Kind.numbers g.K.Kind.meaning c.args.low c.args.high c.args.table.now _ c.in-LostSlot.is c.numbered_line.ensures (λ _. lost_long c.args.low c.args.high _)
+    told g.K.Kind.NAME g.K.Kind.numbers g.K.Kind.meaning c.args.range.low c.args.range.high c.args.table.now _ c.in-LostSlot.is c.numbered_line.ensures (λ _. lost_long c.args.range.low c.args.range.high _)
 
 pub returns-in-Refused-clause-whole : goal.returns-in-Refused-clause-whole
 returns-in-Refused-clause-whole g c =
-    let named = ap (λ n. form_text (codes "(refused") (c.args.low ∷ c.args.high ∷ n ∷ []) (codes ")\n")) (c.from.ensures ∙ c.number.ensures) in
-    told g.K.Kind.NAME g.K.Kind.numbers g.K.Kind.meaning c.args.low c.args.high c.args.table.now _ c.in-Refused.is (called named c.numbered_line-in-Refused.ensures) (λ _. refused_long c.args.low c.args.high _)
+    let named = ap (λ n. form_text (codes "(refused") (c.args.range.low ∷ c.args.range.high ∷ n ∷ []) (codes ")\n")) (c.from.ensures ∙ c.number.ensures) in
+    told g.K.Kind.NAME g.K.Kind.numbers g.K.Kind.meaning c.args.range.low c.args.range.high c.args.table.now _ c.in-Refused.is (called named c.numbered_line-in-Refused.ensures) (λ _. refused_long c.args.range.low c.args.range.high _)
