@@ -8,6 +8,7 @@ ghost use Rattle.distances.specs.Kept.{Laid, Untouched};
 use crate::table;
 use kinds::Kind;
 use links::{BOUNDARIES, Boundary, Hung, Links};
+use ranges::Range;
 
 // One value of the kind for each boundary. Distances can't be copied, and are taken apart by `close` alone.
 pub struct Distances<'a, K> {
@@ -64,18 +65,18 @@ impl<'a, K: Kind> Distances<'a, K> {
         Some(far.plus(near.inverse()))
     }
 
-    // Joins (a, b) with its sum: the links join it, and the entry of the leader that was hung is set. A table of fewer than 1,024 entries,
+    // Joins a range with its sum: the links join it, and the entry of the leader that was hung is set. A table of fewer than 1,024 entries,
     // a pair that is no range, or one whose ends are linked already joins nothing.
-    pub fn join(&mut self, links: &mut Links, a: Boundary, b: Boundary, sum: K) -> Option<Hung>
-        ensures cases { MatchOption result (Untouched links.old links.new self.old.table.now self.new.table.now a.index b.index) (λ h. Laid K.group K.meaning links.old links.new self.old.table.now self.new.table.now a.index b.index h.leader.index h.under.index (K.meaning sum)) }
+    pub fn join(&mut self, links: &mut Links, range: Range<Boundary>, sum: K) -> Option<Hung>
+        ensures cases { MatchOption result (Untouched links.old links.new self.old.table.now self.new.table.now range.low.index range.high.index) (λ h. Laid K.group K.meaning links.old links.new self.old.table.now self.new.table.now range.low.index range.high.index h.leader.index h.under.index (K.meaning sum)) }
         ensures stays { self.new.table.ghost_name ≡ self.old.table.ghost_name }
     {
         if self.len() < BOUNDARIES {
             return None;
         }
-        let (low, near) = self.find(links, a);
-        let (_, far) = self.find(links, b);
-        let hung = links.join(a, b)?;
+        let (low, near) = self.find(links, range.low);
+        let (_, far) = self.find(links, range.high);
+        let hung = links.join(range)?;
         let rise = sum.plus(near).plus(far.inverse());
         let entry = if hung.leader == low {
             rise.inverse()

@@ -4,6 +4,7 @@ ghost use Rattle.std.specs.Prelude.{◌≡◌, ◌<◌};
 use crate::distances::Distances;
 use kinds::{Dials, Kind, Toggles, Wh};
 use links::{Boundary, Links};
+use ranges::Range;
 use std::test::Fail;
 
 fn boundary(number: u32) -> Boundary
@@ -16,12 +17,22 @@ fn boundary(number: u32) -> Boundary
     }
 }
 
+fn range(low: u32, high: u32) -> Range<Boundary>
+    requires low { low < 1024 }
+    requires high { high < 1024 }
+{
+    Range {
+        low: boundary(low),
+        high: boundary(high),
+    }
+}
+
 // What lies between boundaries after (0, 4) and (1, 4) joined with the given sums: from 0 to 1, from 1 to 0, and from 0 to 9.
 fn between<K: Kind>(table: &mut [K], first: K, second: K) -> (Option<K>, Option<K>, Option<K>) {
     let mut links = Links::new();
     let mut distances = Distances::open(table);
-    let _ = distances.join(&mut links, boundary(0), boundary(4), first);
-    let _ = distances.join(&mut links, boundary(1), boundary(4), second);
+    let _ = distances.join(&mut links, range(0, 4), first);
+    let _ = distances.join(&mut links, range(1, 4), second);
     let up = distances.between(&links, boundary(0), boundary(1));
     let down = distances.between(&links, boundary(1), boundary(0));
     let unlinked = distances.between(&links, boundary(0), boundary(9));

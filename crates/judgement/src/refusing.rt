@@ -3,7 +3,8 @@ ghost use Rattle.std.specs.Prelude.{◌≡◌, MatchOption};
 ghost use Rattle.links.specs.Joined.{joined};
 ghost use Rattle.judgement.specs.Refusal.{Explained, Unexplained, NewStep, Crossed, Uncrossed};
 
-use links::{Boundary, Links, Origin, Range, Sign, Step};
+use links::{Boundary, Links, Origin, Sign, Step};
+use ranges::Range;
 
 // The judged range as a step from one of its ends to the other.
 #[derive(Clone, Copy)]
@@ -33,41 +34,40 @@ fn cross(
     Some(place + after)
 }
 
-// Writes the chain from the pair's low to its high end, over the joined ranges and once over the judged range from `low` to `high`, into
+// Writes the chain from the pair's low to its high end, over the joined ranges and once over the judged range, into
 // the table's first steps, and answers how many it has. A table of fewer than 1,023 steps, or a pair that the range does not link anew,
 // leaves it as it was.
 pub fn refusal(
     links: &Links,
-    low: Boundary,
-    high: Boundary,
-    pair: Range,
+    ends: Range<Boundary>,
+    pair: Range<u16>,
     table: &mut [Step],
 ) -> Option<usize>
-    ensures { MatchOption result (Unexplained (joined links.now) (record { low = low.index; high = high.index }) pair table.old table.new) (λ n. Explained (joined links.now) (record { low = low.index; high = high.index }) pair n table.old table.new) }
+    ensures { MatchOption result (Unexplained (joined links.now) (record { low = ends.low.index; high = ends.high.index }) pair table.old table.new) (λ n. Explained (joined links.now) (record { low = ends.low.index; high = ends.high.index }) pair n table.old table.new) }
 {
     let from = Boundary::try_from(u32::from(pair.low)).ok()?;
     let to = Boundary::try_from(u32::from(pair.high)).ok()?;
-    if links.linked(low, high) {
+    if links.linked(ends.low, ends.high) {
         return None;
     }
     let step = Step {
-        low: low.index(),
-        high: high.index(),
+        low: ends.low.index(),
+        high: ends.high.index(),
         sign: Sign::Plus,
         origin: Origin::New,
     };
-    if links.linked(from, low) {
+    if links.linked(from, ends.low) {
         let up = Crossing {
-            near: low,
+            near: ends.low,
             step,
-            far: high,
+            far: ends.high,
         };
         cross(links, from, up, to, table)
     } else {
         let down = Crossing {
-            near: high,
+            near: ends.high,
             step: step.reversed(),
-            far: low,
+            far: ends.low,
         };
         cross(links, from, down, to, table)
     }

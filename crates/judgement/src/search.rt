@@ -3,7 +3,8 @@ ghost use Rattle.std.specs.Prelude.{◌≡◌, ◌≤◌, length, ◌≢◌, fin
 ghost use Rattle.judgement.specs.Search.{places, pair_across};
 
 use arrayvec::ArrayVec;
-use links::{BOUNDARIES, Range};
+use links::BOUNDARIES;
+use ranges::Range;
 use rules::Rule;
 
 // The boundaries that `leader` leads, in ascending order.
@@ -24,14 +25,14 @@ fn members(leaders: &[u16], leader: u16) -> ArrayVec<u16, BOUNDARIES>
 fn first<R: Rule>(rule: &R, i: u16, others: &[u16]) -> Option<u16>
     ensures { result ≡ find (R.Rule.protects rule.now i) others.now }
 {
-    others
-        .iter()
-        .copied()
-        .find(|j| rule.protects(u32::from(i), u32::from(*j)))
+    others.iter().copied().find(|j| rule.protects(Range {
+        low: u32::from(i),
+        high: u32::from(*j),
+    }))
 }
 
 // The protected pair across the sets of the leaders `x` and `y` that has the smallest low end, and of those the smallest high end.
-pub fn across<R: Rule>(rule: &R, leaders: &[u16], x: u16, y: u16) -> Option<Range>
+pub fn across<R: Rule>(rule: &R, leaders: &[u16], x: u16, y: u16) -> Option<Range<u16>>
     requires long { length leaders.now ≡ 1024 }
     requires apart { x ≢ y }
     ensures { result ≡ pair_across (R.Rule.protects rule.now) x y leaders.now 0 }

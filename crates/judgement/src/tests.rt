@@ -1,7 +1,8 @@
 // Judgements and refusals on examples.
 use crate::{Finding, judge, refusal};
-use links::{Boundary, Hung, Links, Origin, Range, Sign, Step};
-use rules::{Joined, Rule, Short, Span, Spans};
+use links::{Boundary, Hung, Links, Origin, Sign, Step};
+use ranges::Range;
+use rules::{Joined, Rule, Short, Spans};
 
 const BLANK: Step = Step {
     low: 9,
@@ -10,20 +11,29 @@ const BLANK: Step = Step {
     origin: Origin::Released,
 };
 
-fn boundary(number: u32) -> Option<Boundary> {
-    Boundary::try_from(number).ok()
+fn ends(low: u32, high: u32) -> Option<Range<Boundary>> {
+    Some(Range {
+        low: Boundary::try_from(low).ok()?,
+        high: Boundary::try_from(high).ok()?,
+    })
 }
 
 fn join(links: &mut Links, low: u32, high: u32) -> Option<Hung> {
-    links.join(boundary(low)?, boundary(high)?)
+    links.join(ends(low, high)?)
 }
 
 fn judged<R: Rule>(links: &Links, rule: &R, low: u32, high: u32) -> Option<Finding> {
-    Some(judge(links, rule, boundary(low)?, boundary(high)?))
+    Some(judge(links, rule, ends(low, high)?))
 }
 
-fn refused(links: &Links, low: u32, high: u32, pair: Range, table: &mut [Step]) -> Option<usize> {
-    refusal(links, boundary(low)?, boundary(high)?, pair, table)
+fn refused(
+    links: &Links,
+    low: u32,
+    high: u32,
+    pair: Range<u16>,
+    table: &mut [Step],
+) -> Option<usize> {
+    refusal(links, ends(low, high)?, pair, table)
 }
 
 #[test]
@@ -64,7 +74,7 @@ fn short_range_by_subtraction(rt: HostRuntime) {
 
 #[test]
 fn listed_range_behind_a_release(rt: HostRuntime) {
-    let spans = [Span { low: 2, high: 4 }];
+    let spans = [Range { low: 2, high: 4 }];
     let rule = Joined::new(Short::new(1), Spans::new(&spans));
     let mut links = Links::new();
     let first = judged(&links, &rule, 0, 2);

@@ -2,7 +2,7 @@
 ghost use Rattle.std.specs.Prelude.{◌≡◌, ◌<◌, slice_index, ◌≢◌};
 ghost use Rattle.ledger.specs.Answers.{number, told, told_trial, counted, count};
 
-use links::Range;
+use ranges::Range;
 
 // Why a query is turned back, in the order in which it is tried.
 #[derive(Clone, Copy, Debug, PartialEq, Eq)]
@@ -40,7 +40,7 @@ impl Fault {
 #[derive(Clone, Copy, Debug, PartialEq, Eq)]
 pub enum Answer<V> {
     Released(V),
-    Withheld(Range, usize),
+    Withheld(Range<u16>, usize),
     LostSlot(usize),
     Refused(Fault),
 }
@@ -63,7 +63,7 @@ impl<V> Answer<V> {
 #[derive(Clone, Copy, Debug, PartialEq, Eq)]
 pub enum Trial {
     Free,
-    Withheld(Range),
+    Withheld(Range<u16>),
     Refused(Fault),
 }
 

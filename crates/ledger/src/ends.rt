@@ -25,8 +25,8 @@ fn ends_within(slots: usize, range: Range<u32>) -> Result<Range<Boundary>, Fault
         return Err(Fault::Backward);
     }
     Ok(Range {
-        low: Boundary::new(range.low).unwrap(),
-        high: Boundary::new(range.high).unwrap(),
+        low: Boundary::try_from(range.low).unwrap(),
+        high: Boundary::try_from(range.high).unwrap(),
     })
 }
 

@@ -11,18 +11,18 @@ use crate::answer::{Answer, Fault};
 use crate::ends::ends_asked;
 use judgement::{Finding, judge, refusal};
 use kinds::Kind;
-use links::{Boundary, Links, Range as Pair, Step};
+use links::{Boundary, Links, Step};
 use ranges::Range;
 use rules::Rule;
 use stores::{Store, SumFault, sum};
 
 // The refusal of a query that would give `pair` away, with its chain in the table: how many steps it has.
-fn withhold(links: &Links, ends: Range<Boundary>, pair: Pair, chain: &mut [Step]) -> usize
+fn withhold(links: &Links, ends: Range<Boundary>, pair: Range<u16>, chain: &mut [Step]) -> usize
     requires only { OnlyWith (joined links.now) (record { low = ends.low.index; high = ends.high.index }) pair.low pair.high }
     requires room { 1023 ≤ length chain.old }
     ensures { Shown (joined links.now) (record { low = ends.low.index; high = ends.high.index }) pair.low pair.high result chain.old chain.new }
 {
-    refusal(links, ends.low, ends.high, pair, chain).unwrap()
+    refusal(links, ends, pair, chain).unwrap()
 }
 
 impl<K: Kind> Amounts<'_, K> {
@@ -49,9 +49,13 @@ impl<K: Kind> Amounts<'_, K> {
         ensures others { SameOrJoined K.Kind.group K.Kind.meaning links.old links.new self.old.distances.table.now self.new.distances.table.now ends.low.index ends.high.index }
         ensures stays { self.new.distances.table.ghost_name ≡ self.old.distances.table.ghost_name }
     {
-        match sum(store, ends.low.index() as usize, ends.high.index() as usize) {
+        let slots = Range {
+            low: usize::from(ends.low.index()),
+            high: usize::from(ends.high.index()),
+        };
+        match sum(store, slots) {
             Ok(value) => {
-                let _ = self.distances.join(links, ends.low, ends.high, value);
+                let _ = self.distances.join(links, ends, value);
                 Answer::Released(value)
             }
             Err(SumFault::Lost(slot)) => Answer::LostSlot(slot),
@@ -77,7 +81,7 @@ impl<K: Kind> Amounts<'_, K> {
         ensures unfull { result ≢ Answer.Refused Fault.Full }
         ensures stays { self.new.distances.table.ghost_name ≡ self.old.distances.table.ghost_name }
     {
-        match judge(links, rule, ends.low, ends.high) {
+        match judge(links, rule, ends) {
             Finding::Linked => self.known(links, ends),
             Finding::Withheld(pair) => Answer::Withheld(pair, withhold(links, ends, pair, chain)),
             Finding::Free => self.release(links, store, ends),

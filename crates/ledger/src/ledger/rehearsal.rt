@@ -24,11 +24,11 @@ fn attempt<R: Rule>(links: &mut Provisional<'_>, range: &Try<R>) -> Trial
         Ok(ends) => ends,
         Err(fault) => return Trial::Refused(fault),
     };
-    match judge(links.links(), &range.rule, ends.low, ends.high) {
+    match judge(links.links(), &range.rule, ends) {
         Finding::Linked => Trial::Free,
         Finding::Withheld(pair) => Trial::Withheld(pair),
         Finding::Free => {
-            let _ = links.join(ends.low, ends.high);
+            let _ = links.join(ends);
             Trial::Free
         }
     }

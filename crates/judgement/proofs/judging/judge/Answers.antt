@@ -8,9 +8,9 @@ returns-in-Some g c =
     let links = c.args.links.now in
     let x-is = c.index-x.ensures.value ∙ c.leader.ensures.value in
     let y-is = c.index-y.ensures.value ∙ c.leader-2.ensures.value in (
-      apart links (record { low = c.args.low.index; high = c.args.high.index }) c.leaders.result c.index-x.result c.index-y.result
+      apart links (record { low = c.args.ends.low.index; high = c.args.ends.high.index }) c.leaders.result c.index-x.result c.index-y.result
           c.leaders.ensures.long c.leaders.ensures.each x-is y-is c.index-x.ensures.below c.index-y.ensures.below c.if-x-y.false,
-      named links (record { low = c.args.low.index; high = c.args.high.index }) c.leaders.result c.index-x.result c.index-y.result
+      named links (record { low = c.args.ends.low.index; high = c.args.ends.high.index }) c.leaders.result c.index-x.result c.index-y.result
           c.leaders.ensures.long c.leaders.ensures.each x-is y-is c.index-x.ensures.below c.index-y.ensures.below c.if-x-y.false
           (g.R.Rule.protects c.args.rule.now) c.in-Some.pair c.in-Some.ensures,
     )
@@ -20,9 +20,9 @@ returns-in-None g c =
     let links = c.args.links.now in
     let x-is = c.index-x.ensures.value ∙ c.leader.ensures.value in
     let y-is = c.index-y.ensures.value ∙ c.leader-2.ensures.value in (
-      apart links (record { low = c.args.low.index; high = c.args.high.index }) c.leaders.result c.index-x.result c.index-y.result
+      apart links (record { low = c.args.ends.low.index; high = c.args.ends.high.index }) c.leaders.result c.index-x.result c.index-y.result
           c.leaders.ensures.long c.leaders.ensures.each x-is y-is c.index-x.ensures.below c.index-y.ensures.below c.if-x-y.false,
-      none_newly links (record { low = c.args.low.index; high = c.args.high.index }) c.leaders.result c.index-x.result c.index-y.result
+      none_newly links (record { low = c.args.ends.low.index; high = c.args.ends.high.index }) c.leaders.result c.index-x.result c.index-y.result
           c.leaders.ensures.long c.leaders.ensures.each x-is y-is c.index-x.ensures.below c.index-y.ensures.below c.if-x-y.false
           (g.R.Rule.protects c.args.rule.now) c.in-None.ensures,
     )

@@ -16,8 +16,8 @@ returns-in_err-from c =
     record {
       reason =
           inr (λ o.
-          let i = (only_inside c.args.links.now (record { low = c.args.low.index; high = c.args.high.index }) c.args.pair.low c.args.pair.high
-          c.args.low.below c.args.high.below o).0 in
+          let i = (only_inside c.args.links.now (record { low = c.args.ends.low.index; high = c.args.ends.high.index }) c.args.pair.low c.args.pair.high
+          c.args.ends.low.below c.args.ends.high.below o).0 in
           let past : 1024 ≤ c.args.pair.low = search rules in omega arith);
       same = refl;
     }
@@ -28,8 +28,8 @@ returns-in_err-to c =
     record {
       reason =
           inr (λ o.
-          let j = (only_inside c.args.links.now (record { low = c.args.low.index; high = c.args.high.index }) c.args.pair.low c.args.pair.high
-          c.args.low.below c.args.high.below o).1 in
+          let j = (only_inside c.args.links.now (record { low = c.args.ends.low.index; high = c.args.ends.high.index }) c.args.pair.low c.args.pair.high
+          c.args.ends.low.below c.args.ends.high.below o).1 in
           let past : 1024 ≤ c.args.pair.high = search rules in omega arith);
       same = refl;
     }
@@ -38,7 +38,7 @@ pub returns-then-linked : goal.returns-then-linked
 returns-then-linked c =
     record {
       reason =
-          inr (linked_none (joined c.args.links.now) (record { low = c.args.low.index; high = c.args.high.index }) c.args.pair.low c.args.pair.high
+          inr (linked_none (joined c.args.links.now) (record { low = c.args.ends.low.index; high = c.args.ends.high.index }) c.args.pair.low c.args.pair.high
           (c.linked.ensures.0 c.if-linked.true));
       same = refl;
     }
@@ -54,7 +54,7 @@ cross-requires-else-linked-2 c =
 
 pub returns-then-linked-2 : goal.returns-then-linked-2
 returns-then-linked-2 c =
-    refused_up (joined c.args.links.now) (record { low = c.args.low.index; high = c.args.high.index }) c.args.pair
+    refused_up (joined c.args.links.now) (record { low = c.args.ends.low.index; high = c.args.ends.high.index }) c.args.pair
     (not_from_Decides c.linked.result c.linked.ensures c.if-linked.false)
     (record { low = c.index.result; high = c.index-2.result; sign = Plus; origin = New })
     (λ x. record { low = c.index.ensures.value x; high = c.index-2.ensures.value x }) c.in_ok-from.from.index c.in_ok-to.to.index
@@ -63,7 +63,7 @@ returns-then-linked-2 c =
 
 pub returns-else-linked-2 : goal.returns-else-linked-2
 returns-else-linked-2 c =
-    refused_down (joined c.args.links.now) (record { low = c.args.low.index; high = c.args.high.index }) c.args.pair
+    refused_down (joined c.args.links.now) (record { low = c.args.ends.low.index; high = c.args.ends.high.index }) c.args.pair
     (not_from_Decides c.linked.result c.linked.ensures c.if-linked.false)
     c.reversed.result
     (ap range_of c.reversed.ensures ∙ λ x. record { low = c.index.ensures.value x; high = c.index-2.ensures.value x }) c.in_ok-from.from.index c.in_ok-to.to.index

@@ -11,8 +11,8 @@ returns g c =
     let room : 1024 ≤ length c.args.self.now.table.now = omega (arith, c.len.ensures, c.if-len-lt-BOUNDARIES.false) in
     record {
       cases =
-          laid G m c.args.links.now c.join.new.self c.args.self.now.table.now c.put.new.table c.args.a.index
-          c.args.b.index c.in_ok-hung.hung.leader.index c.in_ok-hung.hung.under.index c.index.result
+          laid G m c.args.links.now c.join.new.self c.args.self.now.table.now c.put.new.table c.args.range.low.index
+          c.args.range.high.index c.in_ok-hung.hung.leader.index c.in_ok-hung.hung.under.index c.index.result
           c.if-eq.entry (m c.args.sum) (m c.plus-rise.result) c.in_ok-hung.ensures room c.index.ensures.below
           c.index.ensures.value c.put.ensures
           (c.plus-rise.ensures
