@@ -4,7 +4,8 @@ use audit::{Call, run};
 use kinds::{Dials, Toggles, Wh};
 use ledger::{NewLog, Trial, Try};
 use links::Step;
-use rules::{Joined, Short, Span, Spans};
+use ranges::Range;
+use rules::{Joined, Short, Spans};
 use stores::{Packed, Plain, windowed};
 
 fn wh(amount: u32) -> Wh {
@@ -16,13 +17,12 @@ fn dials(litres: u16, starts: u16) -> Dials {
 }
 
 fn query<'c>(low: u32, high: u32) -> Call<'c, Short> {
-    Call::Query { low, high }
+    Call::Query(Range { low, high })
 }
 
 fn on_nine_slots(low: u32, high: u32) -> Try<Short> {
     Try {
-        low,
-        high,
+        range: Range { low, high },
         rule: Short::new(3),
         slots: 9,
     }
@@ -78,7 +78,7 @@ fn toggles_in_a_packed_store_under_listed_spans(rt: HostRuntime) {
     let mut table = [Toggles { mask: 1 }; 1024];
     let bytes = [1, 1, 0, 1, 2, 0, 1, 3, 0, 1, 1, 0];
     let store = Packed::<Toggles>::new(&bytes);
-    let spans = [Span { low: 2, high: 4 }];
+    let spans = [Range { low: 2, high: 4 }];
     let calls = [query(0, 3), query(0, 4), query(3, 4), query(2, 4)];
     let mut heard = Heard::nothing();
     let counts = run(
@@ -107,7 +107,7 @@ fn dials_through_a_window_under_a_joined_rule(rt: HostRuntime) {
     ];
     let marks = [1; 4];
     let store = windowed::<Dials, Plain<Dials>>(Plain::new(&values, &marks), 1, 9);
-    let spans = [Span { low: 0, high: 3 }];
+    let spans = [Range { low: 0, high: 3 }];
     let rule = Joined::new(Short::new(2), Spans::new(&spans));
     let calls = [query(0, 2), query(0, 3), query(0, 1), query(1, 3)];
     let mut heard = Heard::nothing();

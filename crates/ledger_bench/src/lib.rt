@@ -4,7 +4,8 @@
 use kinds::Wh;
 use ledger::{Amounts, Answer, Ledger, NewLog, open};
 use links::Step;
-use rules::{Joined, Rule, Short, Span, Spans};
+use ranges::Range;
+use rules::{Joined, Rule, Short, Spans};
 use std::array;
 use stores::Plain;
 
@@ -44,7 +45,7 @@ impl Asked<'_> {
             sum,
         } = self;
         for &[low, high] in ranges.as_chunks::<2>().0 {
-            let answer = ledger.query(amounts, store, rule, low, high, chain);
+            let answer = ledger.query(amounts, store, rule, Range { low, high }, chain);
             *sum = sum.wrapping_mul(31).wrapping_add(digest(&answer));
         }
     }
@@ -58,10 +59,10 @@ fn readings() -> [Wh; SLOTS] {
 }
 
 // The first 32 of the listed ranges, and (0, 0) where there are fewer.
-fn listed(ranges: &[u32]) -> [Span; 32] {
-    let mut list = [Span { low: 0, high: 0 }; 32];
-    for (span, &[low, high]) in list.iter_mut().zip(ranges.as_chunks::<2>().0) {
-        *span = Span { low, high };
+fn listed(ranges: &[u32]) -> [Range<u32>; 32] {
+    let mut list = [Range { low: 0, high: 0 }; 32];
+    for (range, &[low, high]) in list.iter_mut().zip(ranges.as_chunks::<2>().0) {
+        *range = Range { low, high };
     }
     list
 }

@@ -2,24 +2,16 @@
 use crate::asking::READING;
 use ledger::{NewLog, Trial, Try, open};
 use links::Step;
+use ranges::Range;
 use rules::Short;
 use stores::Plain;
 
 // A try of (low, high) on nine slots, of which none may be told alone or in twos.
 fn on_nine_slots(low: u32, high: u32) -> Try<Short> {
     Try {
-        low,
-        high,
+        range: Range { low, high },
         rule: Short::new(3),
         slots: 9,
-    }
-}
-
-// The named pair of a withheld try.
-fn named(trial: Trial) -> Option<(u16, u16)> {
-    match trial {
-        Trial::Withheld(pair) => Some((pair.low, pair.high)),
-        _ => None,
     }
 }
 
@@ -32,7 +24,13 @@ fn tries_are_judged_by_the_free_ones_before(rt: HostRuntime) {
     let store = Plain::new(&values, &marks);
     let rule = Short::new(3);
     let (mut ledger, mut amounts) = open(NewLog::begin(), &mut table);
-    let _ = ledger.query(&mut amounts, &store, &rule, 0, 4, &mut chain);
+    let _ = ledger.query(
+        &mut amounts,
+        &store,
+        &rule,
+        Range { low: 0, high: 4 },
+        &mut chain,
+    );
     let tries = [
         on_nine_slots(1, 5),
         on_nine_slots(0, 5),
@@ -43,12 +41,18 @@ fn tries_are_judged_by_the_free_ones_before(rt: HostRuntime) {
     let mut trials = [Trial::Free; 5];
     let made = ledger.rehearse(&tries, &mut trials);
     // without the first try, (0, 5) would be withheld for (4, 5)
-    let after = ledger.query(&mut amounts, &store, &rule, 0, 5, &mut chain);
+    let after = ledger.query(
+        &mut amounts,
+        &store,
+        &rule,
+        Range { low: 0, high: 5 },
+        &mut chain,
+    );
     let _ = amounts.close();
     let counts = ledger.close();
     assert_eq!(rt; made, 5);
     assert_eq!(rt; trials[0].number(), 0);
-    assert_eq!(rt; named(trials[1]), Some((0, 1)));
+    assert_eq!(rt; trials[1], Trial::Withheld(Range { low: 0, high: 1 }));
     assert_eq!(rt; trials[2].number(), 0);
     assert_eq!(rt; trials[3].number(), 5);
     assert_eq!(rt; trials[4].number(), 6);

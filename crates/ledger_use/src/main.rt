@@ -4,6 +4,7 @@
 use kinds::Wh;
 use ledger::{Counts, NewLog, open};
 use links::Step;
+use ranges::Range;
 use rules::Short;
 use std::io;
 use stores::Plain;
@@ -15,8 +16,20 @@ fn counted(store: Plain<'_, Wh>, table: &mut [Wh], chain: &mut [Step]) -> Counts
     let rule = Short::new(3);
     let log = NewLog::begin();
     let (mut ledger, mut amounts) = open(log, table);
-    let _ = ledger.query(&mut amounts, &store, &rule, 0, 9, chain);
-    let _ = ledger.query(&mut amounts, &store, &rule, 0, 2, chain);
+    let _ = ledger.query(
+        &mut amounts,
+        &store,
+        &rule,
+        Range { low: 0, high: 9 },
+        chain,
+    );
+    let _ = ledger.query(
+        &mut amounts,
+        &store,
+        &rule,
+        Range { low: 0, high: 2 },
+        chain,
+    );
     let counts = ledger.close();
     let _ = amounts.close();
     counts

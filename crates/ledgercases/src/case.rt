@@ -6,7 +6,8 @@ use crate::order::{Order, Query};
 use kinds::Kind;
 use ledger::{Amounts, Answer, Ledger, NewLog, open};
 use links::Step;
-use rules::{Joined, Short, Span, Spans};
+use ranges::Range;
+use rules::{Joined, Short, Spans};
 use std::alloc::{AllocError, Global};
 use stores::{Lists, Packed, Reading, Store, Window, list};
 
@@ -15,7 +16,7 @@ use stores::{Lists, Packed, Reading, Store, Window, list};
 struct Setting<K> {
     slots: Lists<K>,
     agreed: u32,
-    spans: Vec<Span>,
+    spans: Vec<Range<u32>>,
     steps: Vec<Step>,
 }
 
@@ -51,7 +52,7 @@ struct Session<'a, K> {
 
 impl<K: Held> Session<'_, K> {
     // Asks a query, under the simplest rule that protects what is agreed.
-    fn ask(&mut self, low: u32, high: u32) -> Answer<K> {
+    fn ask(&mut self, range: Range<u32>) -> Answer<K> {
         let ledger = &mut self.ledger;
         let amounts = &mut self.amounts;
         let agreed = self.setting.agreed;
@@ -61,27 +62,20 @@ impl<K: Held> Session<'_, K> {
         let chain = self.setting.steps.as_mut_slice();
         // Stays: the three rules are three types, and each is to be asked by itself.
         if self.setting.spans.is_empty() {
-            ledger.query(amounts, &store, &short, low, high, chain)
+            ledger.query(amounts, &store, &short, range, chain)
         } else if agreed == 1 {
-            ledger.query(amounts, &store, &spans, low, high, chain)
+            ledger.query(amounts, &store, &spans, range, chain)
         } else {
-            ledger.query(
-                amounts,
-                &store,
-                &Joined::new(short, spans),
-                low,
-                high,
-                chain,
-            )
+            ledger.query(amounts, &store, &Joined::new(short, spans), range, chain)
         }
     }
 
     // Asks a query as often as it says, and tells the last answer.
     fn tell(&mut self, query: Query, out: &mut Lines) -> Result<(), AllocError> {
         for _ in 1..query.count {
-            let _ = self.ask(query.low, query.high);
+            let _ = self.ask(query.range);
         }
-        let answer = self.ask(query.low, query.high);
+        let answer = self.ask(query.range);
         let counts = self.ledger.counts();
         let steps = self.setting.steps.as_slice();
         out.say(&Answered {

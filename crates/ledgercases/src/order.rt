@@ -2,7 +2,7 @@
 use crate::held::Numbers;
 use crate::numbers::{count, one, two};
 use kinds::{KindName, UnknownKind};
-use rules::Span;
+use ranges::Range;
 use std::alloc::{AllocError, AllocFailed, Global};
 use std::fmt;
 use std::num::{ParseIntError, TryFromIntError};
@@ -24,8 +24,7 @@ impl fmt::Display for Slot {
 #[derive(Clone, Copy)]
 pub struct Query {
     pub count: u32,
-    pub low: u32,
-    pub high: u32,
+    pub range: Range<u32>,
 }
 
 // What a line asks for within its case.
@@ -40,7 +39,7 @@ pub enum Order {
     // `short K`: the agreed length of the rule from here on.
     Short(u32),
     // `span LOW HIGH`: one more listed span of the rule.
-    Listed(Span),
+    Listed(Range<u32>),
     // `slot MARK NUMBER..`: one more slot, with one number or two.
     Slot(Slot),
     // `packed BYTE..`: one more slot for each whole packed record.
@@ -116,8 +115,10 @@ fn repeated(numbers: &[u32]) -> Option<Order> {
         [0, _, _] => None,
         [count, low, high] => Some(Order::Query(Query {
             count: *count,
-            low: *low,
-            high: *high,
+            range: Range {
+                low: *low,
+                high: *high,
+            },
         })),
         _ => None,
     }
@@ -131,7 +132,7 @@ fn counted(word: &str, numbers: &[u32]) -> Option<Order> {
         "short" => Some(Order::Short(one(numbers)?)),
         "span" => {
             let (low, high) = two(numbers)?;
-            Some(Order::Listed(Span { low, high }))
+            Some(Order::Listed(Range { low, high }))
         }
         "slot" => slot_order(numbers),
         "window" => {
@@ -140,8 +141,10 @@ fn counted(word: &str, numbers: &[u32]) -> Option<Order> {
         }
         "query" => {
             let (low, high) = two(numbers)?;
-            let count = 1;
-            Some(Order::Query(Query { count, low, high }))
+            Some(Order::Query(Query {
+                count: 1,
+                range: Range { low, high },
+            }))
         }
         "repeat" => repeated(numbers),
         _ => None,

@@ -13,7 +13,12 @@ use ledger::Answer;
 use links::Step;
 use ranges::Range;
 
-fn withheld_line(out: &mut [u8], range: Range<u32>, pair: Range<u16>, chain: &[Step]) -> Option<usize>
+fn withheld_line(
+    out: &mut [u8],
+    range: Range<u32>,
+    pair: Range<u16>,
+    chain: &[Step],
+) -> Option<usize>
     ensures { Wrote (withheld_line range.low range.high pair chain.now) out.old out.new result }
 {
     let opening = Pair {
@@ -58,11 +63,6 @@ pub fn answer_line<K: Kind>(
         Answer::Withheld(pair, count) => withheld_line(out, range, *pair, first(table, *count)),
         // Stays: `u64` has no `From<usize>`.
         Answer::LostSlot(slot) => numbered_line(out, b"(lost", range, *slot as u64),
-        Answer::Refused(fault) => numbered_line(
-            out,
-            b"(refused",
-            range,
-            u64::from(fault.number()),
-        ),
+        Answer::Refused(fault) => numbered_line(out, b"(refused", range, u64::from(fault.number())),
     }
 }

@@ -5,7 +5,8 @@ use lines::{
     Layer, ScriptFault, answer_line, begin_rehearsed, closed_line, end_rehearsed, fault_line,
     has_room, tally_line, write_number, write_trial,
 };
-use links::{Origin, Range, Sign, Step};
+use links::{Origin, Sign, Step};
+use ranges::Range;
 
 const COUNTS: Counts = Counts {
     released: 4,
@@ -43,16 +44,16 @@ fn answers_to_queries(rt: HostRuntime) {
         },
     ];
     let sum = Answer::Released(Wh { amount: 13 });
-    let n = answer_line(&mut out, 0, 4, &sum, &chain);
+    let n = answer_line(&mut out, Range { low: 0, high: 4 }, &sum, &chain);
     assert!(rt; holds(&out, n, b"(sum 0 4 (wh 13))\n"));
     let both = Answer::Released(Dials {
         litres: 10_012,
         starts: 3,
     });
-    let n = answer_line(&mut out, 4, 8, &both, &chain);
+    let n = answer_line(&mut out, Range { low: 4, high: 8 }, &both, &chain);
     assert!(rt; holds(&out, n, b"(sum 4 8 (dials 12 3))\n"));
     let withheld: Answer<Wh> = Answer::Withheld(Range { low: 0, high: 1 }, 2);
-    let n = answer_line(&mut out, 0, 5, &withheld, &chain);
+    let n = answer_line(&mut out, Range { low: 0, high: 5 }, &withheld, &chain);
     assert!(rt;
         holds(
             &out,
@@ -61,10 +62,10 @@ fn answers_to_queries(rt: HostRuntime) {
         )
     );
     let lost: Answer<Wh> = Answer::LostSlot(8);
-    let n = answer_line(&mut out, 5, 9, &lost, &chain);
+    let n = answer_line(&mut out, Range { low: 5, high: 9 }, &lost, &chain);
     assert!(rt; holds(&out, n, b"(lost 5 9 8)\n"));
     let refused: Answer<Wh> = Answer::Refused(Fault::Beyond);
-    let n = answer_line(&mut out, 2, 10, &refused, &chain);
+    let n = answer_line(&mut out, Range { low: 2, high: 10 }, &refused, &chain);
     assert!(rt; holds(&out, n, b"(refused 2 10 5)\n"));
 }
 
@@ -79,7 +80,7 @@ fn answers_to_tries(rt: HostRuntime) {
     ];
     for (low, high, trial) in tries {
         if len <= 80 {
-            len += write_trial(&mut out[len..], low, high, trial).unwrap_or(80);
+            len += write_trial(&mut out[len..], Range { low, high }, trial).unwrap_or(80);
         }
     }
     if len <= 80 {

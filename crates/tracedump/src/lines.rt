@@ -62,7 +62,16 @@ fn stretch_lines<K: Kind + fmt::Display>(
     out.push(format!(in heap; "  as a list: {total}")?)?;
     let length = slots.high.saturating_sub(slots.low);
     let window = Window::new(packed, slots.low, length);
-    let total = sum_text(heap, sum(&window, Range { low: 0, high: length }))?;
+    let total = sum_text(
+        heap,
+        sum(
+            &window,
+            Range {
+                low: 0,
+                high: length,
+            },
+        ),
+    )?;
     out.push(format!(in heap; "  through a window: {total}")?)?;
     Ok(())
 }
