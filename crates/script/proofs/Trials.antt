@@ -13,7 +13,7 @@ answered_length f (t ∷ ts) (x ∷ xs) = let rest = answered_length f ts xs in 
 
 -- a try as it stands in the line
 abbrev pub tried_of : {R : Type 0} → Try R → Trial → Tried
-tried_of t x = record { low = t.low; high = t.high; trial = x }
+tried_of t x = record { low = t.range.low; high = t.range.high; trial = x }
 
 pub answered_at : {R : Type 0} (ts : List (Try R)) (xs : List Trial) (i : ℕ) (t : Try R) (x : Trial) (d : Tried) → i < length ts → i < length xs → get_or (answered (map ends_of ts) xs) i d ≡ tried_of (get_or ts i t) (get_or xs i x)
 answered_at [] xs i t x d h k = absurd (let z : i < 0 = h in omega arith)
