@@ -14,6 +14,7 @@ use links::Step;
 use rules::Rule;
 use stores::Store;
 
+// Stays: the tables and the listener are lent one by one by who calls `run`; a struct of loans would only be taken apart here again.
 // Makes one call, and tells its reply.
 fn perform<K: Kind, S: Store<K>, R: Rule, T: Rule, L: Listener<K>>(
     ledger: &mut Ledger,

@@ -46,6 +46,7 @@ impl<'a, K: Kind> Distances<'a, K> {
     {
         let mut at = b;
         let mut far = K::zero();
+        // Stays: a walk up by links of the forest, with no index and no list to go over.
         while let Some(up) = links.above(at) {
             far = far.plus(self.at(at));
             at = up;

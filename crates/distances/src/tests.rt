@@ -11,10 +11,7 @@ fn boundary(number: u32) -> Boundary
     requires { number < 1024 }
     ensures { result.index ≡ number }
 {
-    match Boundary::new(number) {
-        Some(b) => b,
-        None => unreachable(),
-    }
+    Boundary::try_from(number).unwrap()
 }
 
 fn range(low: u32, high: u32) -> Range<Boundary>

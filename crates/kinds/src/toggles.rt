@@ -19,6 +19,7 @@ pub struct Toggles {
     pub mask: u16,
 }
 
+// Stays: no twin of `Wh`, since the two add differently; what they share are definitions over the width (specs/Residues, specs/Digits).
 // Stays: a derived `==` has a law at numbers past 2^16 too, where held numbers differ and mean the same.
 impl PartialEq for Toggles {
     ghost eq = { toggles_eq };

@@ -16,12 +16,12 @@ fn digest(answer: &Answer<Wh>) -> u32 {
     match answer {
         Answer::Released(value) => value.amount,
         Answer::Withheld(pair, steps) => {
-            (pair.low as u32 * 1024 + pair.high as u32)
+            (u32::from(pair.low) * 1024 + u32::from(pair.high))
                 .wrapping_mul(1024)
                 .wrapping_add((*steps % 1024) as u32)
         }
         Answer::LostSlot(slot) => (*slot % 1024) as u32,
-        Answer::Refused(fault) => fault.number() as u32,
+        Answer::Refused(fault) => u32::from(fault.number()),
     }
 }
 

@@ -118,6 +118,7 @@ impl<K: Held> Session<'_, K> {
     }
 }
 
+// Stays: `closing` says whether the case has one line more, and has no value beside it.
 // Runs a case from opening to closing its ledger; the closing counts have a line where that is asked for.
 pub fn run<K: Held>(
     distances: u16,

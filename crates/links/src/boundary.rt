@@ -1,5 +1,5 @@
 // A boundary: the place before a slot, or after the last one.
-ghost use Rattle.std.specs.Prelude.{◌≡◌, ◌<◌, ◌≤◌, MatchOption, MatchResult};
+ghost use Rattle.std.specs.Prelude.{◌≡◌, ◌<◌, ◌≤◌, MatchResult};
 
 // How many boundaries the links have.
 pub const BOUNDARIES: usize = 1024;
@@ -30,13 +30,6 @@ impl TryFrom<u32> for Boundary {
 }
 
 impl Boundary {
-    // The boundary of that number, or none where there is no such boundary.
-    pub fn new(number: u32) -> Option<Boundary>
-        ensures { MatchOption result (1024 ≤ number) (λ b. b.index ≡ number) }
-    {
-        Boundary::try_from(number).ok()
-    }
-
     // The boundary of a number that is known to be one.
     pub(crate) fn at(index: u16) -> Boundary
         requires { index < 1024 }

@@ -30,8 +30,6 @@ fn pair(hung: Option<Hung>) -> Option<(u16, u16)> {
 
 #[test]
 fn boundaries_are_below_1024(rt: HostRuntime) {
-    assert_eq!(rt; Boundary::new(1023).map(Boundary::index), Some(1023));
-    assert_eq!(rt; Boundary::new(1024), None);
     assert_eq!(rt; Boundary::try_from(1023).map(Boundary::index), Ok(1023));
     assert_eq!(rt; Boundary::try_from(1024), Err(NoBoundary));
 }

@@ -34,6 +34,7 @@ impl<'a, K: Kind> Packed<'a, K> {
     }
 }
 
+// Stays: beside `Window::new`, which has no kind to name, since a window's type is that of the store below alone.
 // A part of any store, from a start and as long as it may be.
 pub fn windowed<K: Kind, S: Store<K>>(below: S, start: usize, length: usize) -> Window<S>
     ensures means { ⟦<Window<S> as Store<K>>⟧.log result ≡ window_log (S.Store.log below) start length }

@@ -67,6 +67,7 @@ pub fn sum<K: Kind, S: Store<K>>(store: &S, range: Range<usize>) -> Result<K, Su
         return Err(SumFault::Refused(RangeFault::Empty));
     }
     let mut sum = K::zero();
+    // Stays: a slot's number is what a store is read by, so the loop goes over the numbers.
     for slot in range.low..range.high {
         sum = sum.plus(store.read(slot).kept(slot)?);
     }

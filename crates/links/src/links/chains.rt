@@ -91,6 +91,7 @@ impl Links {
         }
     }
 
+    // Stays: the six are what the recursion changes, or lends on; a struct of them would be built anew at each call.
     // Writes the way from `x` to `y` over the first `below` joins into the table from place `from` on, and answers where it ends.
     fn fill(&self, x: Boundary, y: Boundary, below: u16, table: &mut [Step], from: usize) -> usize
         requires older { below ≤ self.now.joins }

@@ -21,6 +21,7 @@ impl Links {
     pub(super) fn row(&self, b: Boundary) -> Row
         ensures { result ≡ row_at self.now.rows b.index }
     {
+        // Stays: a widening `as` at an index here and below; `usize::from` is as long, and one call more in each proof.
         self.rows[b.index() as usize]
     }
 

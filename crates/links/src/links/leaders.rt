@@ -39,6 +39,7 @@ impl Links {
         ensures tells { LeadersTell self.now }
     {
         let mut at = b;
+        // Stays: a walk up by links of the forest, with no index and no list to go over.
         while let Some(up) = self.above(at) {
             at = up;
         }
