@@ -20,6 +20,7 @@ fn query<'c>(low: u32, high: u32) -> Call<'c, Short> {
     Call::Query(Range { low, high })
 }
 
+// Stays: as in ledger_tests; the two crates share none of their own.
 fn on_nine_slots(low: u32, high: u32) -> Try<Short> {
     Try {
         range: Range { low, high },

@@ -1,13 +1,10 @@
 -- What the entries of a table mean, read and written one at a time.
-use Rattle.std.proofs.Common.{◌≡◌, ℕ, ◌<◌, ◌≤◌, List, map, length, get_or, set, sym, ap, ◌∙◌, arith}
-use Rattle.std.proofs.lemmas.List.{get_or_past, get_or-map, length-map, map-set, get_or-set_same, get_or-set_other}
+use Rattle.std.proofs.Common.{◌≡◌, ℕ, ◌<◌, ◌≤◌, List, map, length, set, ap, ◌∙◌, arith}
+use Rattle.std.proofs.lemmas.List.{get_or_past, length-map, map-set, get_or-set_same, get_or-set_other}
 use Rattle.kinds.specs.Group.{Group}
 use Rattle.distances.specs.Distance.{entry}
 
 module _ {K V : Type 0} (G : Group V) (meaning : K → V) (table : List K) where
-  pub entry_in : (i : ℕ) (x : K) → i < length table → x ≡ get_or table i x → meaning x ≡ entry G (map meaning table) i
-  entry_in i x l e = ap meaning e ∙ sym (get_or-map meaning table i x G.zero l)
-
   pub entry_past : (i : ℕ) → length table ≤ i → entry G (map meaning table) i ≡ G.zero
   entry_past i l =
       let e = length-map table meaning in

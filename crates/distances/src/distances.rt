@@ -36,6 +36,7 @@ impl<'a, K: Kind> Distances<'a, K> {
     fn at(&self, b: Boundary) -> K
         ensures { K.meaning result ≡ entry K.group (map K.meaning self.now.table.now) b.index }
     {
+        // Stays: a widening `as` at an index, here and below; `usize::from` is as long.
         table::at(self.table, b.index() as usize)
     }
 

@@ -14,6 +14,7 @@ struct Crossing {
     far: Boundary,
 }
 
+// Stays: five parameters, of which `from` and `to` are the pair's ends, and never the judged range's.
 // Writes the chain from `from` to the near end, the step to the far end, and the chain from there to `to`.
 fn cross(
     links: &Links,
@@ -25,6 +26,7 @@ fn cross(
     requires { NewStep (joined links.now) crossing.near.index crossing.far.index crossing.step }
     ensures { MatchOption result (Uncrossed (joined links.now) crossing.near.index crossing.far.index from.index to.index table.old table.new) (λ n. Crossed (joined links.now) crossing.near.index crossing.far.index crossing.step from.index to.index n table.old table.new) }
 {
+    // Stays: a table of its own for what is found first and written last, since a refusal asks for no memory.
     let mut rest = [crossing.step; 1023];
     let after = links.chain(crossing.far, to, &mut rest)?;
     let before = links.chain(from, crossing.near, table)?;

@@ -15,6 +15,7 @@ fn members(leaders: &[u16], leader: u16) -> ArrayVec<u16, BOUNDARIES>
     let mut members = ArrayVec::new();
     for (i, other) in leaders.iter().enumerate() {
         if *other == leader {
+            // Stays: here and below the check proves that the place fits.
             members.push(i as u16);
         }
     }

@@ -1,8 +1,6 @@
 -- What a judgement says of a try, as the machine has it. Assumes nothing.
 use Rattle.std.proofs.Common.{◌≡◌, ℕ, ◌+◌, ◌<◌, ◌≤◌, false, List, [], ◌∷◌, ◌++◌, map, length, get_or, take, drop, set, Some, None, Option, sym, ap, ◌∙◌, subst, ⊎_elim, arith, drop-drop, drop-set-lt, take_all, MatchOption}
 use mathlib.Core.List.{map-append}
-use mathlib.Core.HLevel.{is_prop→PathP}
-use native.Mathlib.Bridge.{le_prop}
 use Rattle.std.proofs.lemmas.List.{take_more, take_more_set}
 use Rattle.links.specs.declared.links.Links.{Links}
 use Rattle.links.specs.declared.links.join.Hung.{Hung}
@@ -14,8 +12,6 @@ use Rattle.links.proofs.Chained.{acyclic}
 use Rattle.links.proofs.Paths.{path, released, with_new, earlier_path, chain_path}
 use Rattle.judgement.specs.Judgement.{Newly, Named}
 use Rattle.ledger.specs.declared.answer.Trial.{Trial}
-use Rattle.ledger.specs.declared.ledger.Ledger.{Ledger}
-use Rattle.ledger.specs.Answers.{counted}
 use Rattle.ledger.specs.Judgement.{Judged}
 use Rattle.ledger.specs.Machine.{Try, try_range, try_fault, Tried, Rehearsed}
 
@@ -79,8 +75,3 @@ all_reached {R} f {js} {ks} ts xs n i whole end r =
 -- what lies past a place stays when that place is set
 pub drop_past : {X : Type 0} (xs ys : List X) (i : ℕ) (x : X) → drop i xs ≡ drop i ys → drop (i + 1) (set xs i x) ≡ drop (i + 1) ys
 drop_past xs ys i x e = drop-set-lt (i + 1) xs i x (omega arith) ∙ sym (drop-drop 1 i xs) ∙ ap (drop 1) e ∙ drop-drop 1 i ys
-
--- ledgers with the same links, counts and log are the same
-pub ledger_same : (a b : Ledger) → a.links ≡ b.links → a.counts ≡ b.counts → a.log ≡ b.log → a ≡ b
-ledger_same a b p q r =
-    λ i. record { links = p i; counts = q i; log = r i; within = is_prop→PathP (λ j. counted (q j) ≤ 65535) (λ j. le_prop) a.within b.within i }

@@ -1,5 +1,5 @@
 -- A query's answer before and after it is counted, as the machine has it. Assumes nothing.
-use Rattle.std.proofs.Common.{◌≡◌, ℕ, ◌≤◌, List, length, Some, None, sym, refl, ◌∙◌, subst, arith}
+use Rattle.std.proofs.Common.{◌≡◌, ℕ, ◌≤◌, List, length, Some, sym, refl, ◌∙◌, subst, arith}
 use Rattle.std.proofs.lemmas.Bool.{eq-eqb, ne_eqb, cond-true, cond-false}
 use Rattle.kinds.specs.Group.{Group}
 use Rattle.links.specs.declared.links.Links.{Links}
@@ -11,7 +11,7 @@ use Rattle.ledger.specs.declared.answer.Fault.{Fault}
 use Rattle.ledger.specs.Answers.{counted, count}
 use Rattle.ledger.specs.Machine.{range_fault, fault, Asked}
 use Rattle.ledger.specs.Rules.{Rule}
-use Rattle.ledger.specs.State.{valued_answer, releases_of, state_of, Queried, Settles, Responds}
+use Rattle.ledger.specs.State.{valued_answer, releases_of, state_of, Queried, Responds}
 
 -- an answer is counted alike whatever its value means
 pub count_valued : {K V : Type 0} (f : K → V) (answer : Answer K) (counts : Counts) → count (valued_answer f answer) counts ≡ count answer counts
@@ -29,12 +29,6 @@ module _ {V : Type 0} (G : Group V) (log : Log V) (rule : Rule) (links links' : 
   -- on a ledger that is not full the first fault is that of the range and the tables
   rest_fault : (counts : Counts) → (counted counts ≡ 65535 → ⊥) → fault (state_of G links table counts) log.slots (record { low = low; high = high; table = steps }) ≡ range_fault log.slots (length table) (length steps) low high
   rest_fault counts room = cond-false _ _ _ (ne_eqb (counted counts) 65535 room)
-
-  pub responds_settled : (a b : ℕ) (answer : Answer V) → a ≡ low → b ≡ high → range_fault log.slots (length table) (length steps) low high ≡ None → Settles G log rule links links' table table' steps steps' a b answer → Responds G log rule links links' table table' steps steps' low high answer
-  responds_settled a b answer is-low is-high none settles = λ counts room.
-      let there : Settles G log rule links links' table table' steps steps' low high answer =
-      subst (λ y. Settles G log rule links links' table table' steps steps' low y answer) is-high (subst (λ x. Settles G log rule links links' table table' steps steps' x b answer) is-low settles) in
-      there counts (rest_fault counts room ∙ none)
 
   pub queried : (answer : Answer V) (counts counts' : Counts) → (counted counts ≡ 65535 → ⊥) → counts' ≡ count answer counts → length table' ≡ length table → Responds G log rule links links' table table' steps steps' low high answer → Queried G log rule links links' table table' counts counts' steps steps' low high answer
   queried answer counts counts' room is long responds =

@@ -22,6 +22,7 @@ pub enum Fault {
 }
 
 impl Fault {
+    // Stays: refusals are told by number, here and in the crates above and below.
     pub fn number(self) -> u8
         ensures { result ≡ number self }
     {

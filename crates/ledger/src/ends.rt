@@ -18,6 +18,7 @@ fn ends_within(slots: usize, range: Range<u32>) -> Result<Range<Boundary>, Fault
     ensures fault { MatchResult result (λ ends. (ends_fault slots range.low range.high ≡ None) × (ends.low.index ≡ range.low) × (ends.high.index ≡ range.high)) (λ fault. ends_fault slots range.low range.high ≡ Some fault) }
     ensures sound { MatchResult result (λ _. (range.low < range.high) × (range.high ≤ slots)) (λ fault. fault ≢ Fault.Full) }
 {
+    // Stays: `usize` has no `From<u32>`.
     if range.high as usize > slots {
         return Err(Fault::Beyond);
     }
@@ -53,12 +54,12 @@ pub(crate) fn ends_asked(
 }
 
 // The ends of a try's range.
-pub(crate) fn ends_tried<R: Rule>(attempt: &Try<R>) -> Result<Range<Boundary>, Fault>
-    ensures fault { MatchResult result (λ ends. (try_fault (try_of R.Rule.protects R.Rule.ordered attempt.now) ≡ None) × (ends.low.index ≡ attempt.now.range.low) × (ends.high.index ≡ attempt.now.range.high)) (λ fault. try_fault (try_of R.Rule.protects R.Rule.ordered attempt.now) ≡ Some fault) }
-    ensures ordered { OnOk result (attempt.now.range.low < attempt.now.range.high) }
+pub(crate) fn ends_tried<R: Rule>(tried: &Try<R>) -> Result<Range<Boundary>, Fault>
+    ensures fault { MatchResult result (λ ends. (try_fault (try_of R.Rule.protects R.Rule.ordered tried.now) ≡ None) × (ends.low.index ≡ tried.now.range.low) × (ends.high.index ≡ tried.now.range.high)) (λ fault. try_fault (try_of R.Rule.protects R.Rule.ordered tried.now) ≡ Some fault) }
+    ensures ordered { OnOk result (tried.now.range.low < tried.now.range.high) }
 {
-    if attempt.slots > LONGEST {
+    if tried.slots > LONGEST {
         return Err(Fault::LongLog);
     }
-    ends_within(attempt.slots, attempt.range)
+    ends_within(tried.slots, tried.range)
 }

@@ -11,6 +11,7 @@ use stores::Plain;
 
 const SLOTS: usize = 1023;
 
+// Stays: numbers below 1,024, and numbers to be mixed, cut by `as` where the check proves that they fit.
 // A number that depends on all that an answer tells.
 fn digest(answer: &Answer<Wh>) -> u32 {
     match answer {

@@ -12,7 +12,7 @@ pub const READING: Wh = Wh { amount: 7 };
 
 // Asks a range so many times, and once more, on a log of kept slots with so many distances and chain steps: the number of the last
 // answer, and the counts at closing.
-pub fn asked<const SLOTS: usize, const DISTANCES: usize, const STEPS: usize>(
+pub fn asked_at<const SLOTS: usize, const DISTANCES: usize, const STEPS: usize>(
     before: u32,
     range: Range<u32>,
 ) -> (u8, Counts)

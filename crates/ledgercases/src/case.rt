@@ -100,6 +100,7 @@ impl<K: Held> Session<'_, K> {
             },
             Order::Packed(bytes) => setting.unpack(bytes)?,
             Order::Window { start, length } => {
+                // Stays: `usize` has no `From<u32>`.
                 let window = Window::new(setting.slots.plain(), *start as usize, *length as usize);
                 setting.slots = list(out.heap(), &window)?;
             }

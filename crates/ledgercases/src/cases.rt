@@ -26,6 +26,7 @@ fn distances(orders: &[Order]) -> u16 {
 // Runs one case at its kind.
 fn run_case(orders: &[Order], closing: bool, out: &mut Lines) -> Result<(), AllocError> {
     let count = distances(orders);
+    // Stays: three types, of which one is chosen by what was read.
     match kind(orders) {
         KindName::Wh => run::<Wh>(count, orders, closing, out),
         KindName::Toggles => run::<Toggles>(count, orders, closing, out),

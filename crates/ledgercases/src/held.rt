@@ -12,10 +12,7 @@ pub struct Numbers {
 impl Numbers {
     // The only number, where there is no second.
     fn only(self) -> Option<u32> {
-        match self.second {
-            None => Some(self.first),
-            Some(_) => None,
-        }
+        self.second.is_none().then_some(self.first)
     }
 }
 

@@ -1,6 +1,6 @@
 // The lines of the cases: one order on a line, its parts separated by blanks, every number in base ten.
 use crate::held::Numbers;
-use crate::numbers::{count, one, two};
+use crate::numbers::{count, exactly};
 use kinds::{KindName, UnknownKind};
 use ranges::Range;
 use std::alloc::{AllocError, AllocFailed, Global};
@@ -129,18 +129,21 @@ fn counted(word: &str, numbers: &[u32]) -> Option<Order> {
     match word {
         "distances" => Some(Order::Distances(count(numbers)?)),
         "steps" => Some(Order::Steps(count(numbers)?)),
-        "short" => Some(Order::Short(one(numbers)?)),
+        "short" => {
+            let [agreed] = exactly::<1>(numbers)?;
+            Some(Order::Short(agreed))
+        }
         "span" => {
-            let (low, high) = two(numbers)?;
+            let [low, high] = exactly::<2>(numbers)?;
             Some(Order::Listed(Range { low, high }))
         }
         "slot" => slot_order(numbers),
         "window" => {
-            let (start, length) = two(numbers)?;
+            let [start, length] = exactly::<2>(numbers)?;
             Some(Order::Window { start, length })
         }
         "query" => {
-            let (low, high) = two(numbers)?;
+            let [low, high] = exactly::<2>(numbers)?;
             Some(Order::Query(Query {
                 count: 1,
                 range: Range { low, high },
@@ -173,10 +176,7 @@ fn packed(heap: Global, numbers: &[u32]) -> Result<Order, Unmade> {
 fn second(line: &str) -> Option<&str> {
     let mut words = line.split_whitespace().skip(1);
     let word = words.next()?;
-    match words.next() {
-        None => Some(word),
-        Some(_) => None,
-    }
+    words.next().is_none().then_some(word)
 }
 
 // The order of a line that begins with this word.

@@ -8,7 +8,7 @@ ghost use Rattle.lines.specs.Fits.{Whole, ModestAnswer};
 use crate::pairs::Pair;
 use crate::piece::{Each, Piece, Text};
 use crate::sums::sum_line;
-use kinds::Kind;
+use kinds::{Kind, KindName};
 use ledger::Answer;
 use links::Step;
 use ranges::Range;
@@ -48,7 +48,27 @@ fn numbered_line(out: &mut [u8], opening: &[u8], range: Range<u32>, number: u64)
         .put(out)
 }
 
-// Writes the line of what a ledger of a kind answered to a query of the range; `table` has the chain of a withheld one in its first steps.
+// Writes, under any kind's word, the line of what a ledger answered to a query of the range; `table` has the chain of a withheld one in its first steps.
+pub fn named_answer_line<K: Kind>(
+    out: &mut [u8],
+    kind: KindName,
+    range: Range<u32>,
+    answer: &Answer<K>,
+    table: &[Step],
+) -> Option<usize>
+    ensures text { Wrote (answer_line kind K.Kind.numbers range.low range.high (valued_answer K.Kind.meaning answer.now) table.now) out.old out.new result }
+    ensures whole { ModestAnswer answer.now table.now → Whole (answer_line kind K.Kind.numbers range.low range.high (valued_answer K.Kind.meaning answer.now) table.now) out.old result }
+{
+    match answer {
+        Answer::Released(value) => sum_line(out, kind, range, *value),
+        Answer::Withheld(pair, count) => withheld_line(out, range, *pair, first(table, *count)),
+        // Stays: `u64` has no `From<usize>`.
+        Answer::LostSlot(slot) => numbered_line(out, b"(lost", range, *slot as u64),
+        Answer::Refused(fault) => numbered_line(out, b"(refused", range, u64::from(fault.number())),
+    }
+}
+
+// The same line under the kind's own word.
 pub fn answer_line<K: Kind>(
     out: &mut [u8],
     range: Range<u32>,
@@ -58,11 +78,5 @@ pub fn answer_line<K: Kind>(
     ensures text { Wrote (answer_line K.Kind.NAME K.Kind.numbers range.low range.high (valued_answer K.Kind.meaning answer.now) table.now) out.old out.new result }
     ensures whole { ModestAnswer answer.now table.now → Whole (answer_line K.Kind.NAME K.Kind.numbers range.low range.high (valued_answer K.Kind.meaning answer.now) table.now) out.old result }
 {
-    match answer {
-        Answer::Released(value) => sum_line(out, range, *value),
-        Answer::Withheld(pair, count) => withheld_line(out, range, *pair, first(table, *count)),
-        // Stays: `u64` has no `From<usize>`.
-        Answer::LostSlot(slot) => numbered_line(out, b"(lost", range, *slot as u64),
-        Answer::Refused(fault) => numbered_line(out, b"(refused", range, u64::from(fault.number())),
-    }
+    named_answer_line(out, K::NAME, range, answer, table)
 }

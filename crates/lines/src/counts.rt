@@ -22,6 +22,7 @@ fn put_counts(out: &mut [u8], opening: &[u8], counts: Counts) -> Option<usize>
         .put(out)
 }
 
+// Stays: two lines over one function, for two words of the format.
 // The line of the counts so far.
 pub fn tally_line(out: &mut [u8], counts: Counts) -> Option<usize>
     ensures text { Wrote (tally_line counts) out.old out.new result }

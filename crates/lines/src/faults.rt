@@ -12,6 +12,7 @@ pub struct ScriptFault {
     pub line: usize,
     pub column: usize,
     pub layer: Layer,
+    // Stays: as wide as the number that was told before the layers had enums of their faults.
     pub number: u8,
 }
 

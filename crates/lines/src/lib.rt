@@ -13,7 +13,7 @@ mod sums;
 mod trials;
 mod words;
 
-pub use answers::answer_line;
+pub use answers::{answer_line, named_answer_line};
 pub use buffer::{ROOM, Short, has_room};
 pub use counts::{closed_line, tally_line};
 pub use faults::{ScriptFault, fault_line};

@@ -73,6 +73,7 @@ impl<P: Piece> Piece for Each<'_, P> {
     ghost text = { λ it. flat_map P.Piece.text it.0.now };
 
     fn put(&self, out: &mut [u8]) -> Option<usize> {
+        // Stays: the rest of the buffer, from the filled length on, is lent to each piece, by a rule of the project.
         let mut len = 0;
         for piece in self.0 {
             len += piece.put(&mut out[len..])?;

@@ -4,12 +4,17 @@ ghost use Rattle.lines.specs.Text.{Wrote};
 ghost use Rattle.lines.specs.Lines.{sum_line};
 
 use crate::piece::{Each, Piece, Text};
-use kinds::Kind;
+use kinds::{Kind, KindName};
 use ranges::Range;
 
 // A value has at most 255 numbers, as many as a byte counts.
-pub(crate) fn sum_line<K: Kind>(out: &mut [u8], range: Range<u32>, value: K) -> Option<usize>
-    ensures text { Wrote (sum_line K.Kind.NAME K.Kind.numbers range.low range.high (K.Kind.meaning value)) out.old out.new result }
+pub(crate) fn sum_line<K: Kind>(
+    out: &mut [u8],
+    kind: KindName,
+    range: Range<u32>,
+    value: K,
+) -> Option<usize>
+    ensures text { Wrote (sum_line kind K.Kind.numbers range.low range.high (K.Kind.meaning value)) out.old out.new result }
     ensures few { K.Kind.numbers.size ≤ 255 }
 {
     let mut table = [0; 255];
@@ -18,7 +23,7 @@ pub(crate) fn sum_line<K: Kind>(out: &mut [u8], range: Range<u32>, value: K) -> 
     Text(b"(sum")
         .then(range)
         .then(Text(b" ("))
-        .then(K::NAME)
+        .then(kind)
         .then(Each(row))
         .then(Text(b"))\n"))
         .put(out)

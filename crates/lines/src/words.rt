@@ -7,6 +7,7 @@ use crate::piece::{Piece, Text};
 use kinds::KindName;
 use std::fmt;
 
+// Stays: a kind's and a layer's word are two formats' words.
 impl Piece for KindName {
     ghost text = { kind_word };
 

@@ -22,6 +22,7 @@ impl TryFrom<u32> for Boundary {
 
     fn try_from(number: u32) -> Result<Boundary, NoBoundary> {
         if number < 1024 {
+            // Stays: the check proves that the number fits; `try_from` would add a case that can't be.
             Ok(Boundary::at(number as u16))
         } else {
             Err(NoBoundary)

@@ -15,6 +15,7 @@ pub use join::Hung;
 
 // Which boundaries are linked, and by which ranges. Links can't be copied, and are taken apart by `close` alone.
 pub struct Links {
+    // Stays: rows in a plain array inside the links, by a rule of the project.
     rows: [Row; BOUNDARIES],
     joins: u16,
     // each boundary has a row, and its parent is a boundary

@@ -71,6 +71,7 @@ impl<K: Kind> Line for AnswerLine<'_, K> {
     }
 }
 
+// Stays: the counts so far and those at the close are two lines.
 // The counts so far.
 #[derive(Clone, Copy)]
 pub(crate) struct Tally(pub(crate) Counts);

@@ -17,54 +17,16 @@ fn first_fault(script: &[u8]) -> Option<(u8, u32, u32)> {
 fn tokens_touch_and_have_places(rt: HostRuntime) {
     let mut reader = Reader::new(b"\n(query0 17)");
     assert!(rt; reader.next_line().is_ok());
-    assert!(rt;
-        matches!(
-            reader.next(),
-            Some(Placed {
-                token: Token::Open,
-                place: Place { line: 2, column: 1 }
-            })
-        )
-    );
-    assert!(rt;
-        matches!(
-            reader.next(),
-            Some(Placed {
-                token: Token::Word(b"query"),
-                place: Place { line: 2, column: 2 }
-            })
-        )
-    );
-    assert!(rt;
-        matches!(
-            reader.next(),
-            Some(Placed {
-                token: Token::Number(0),
-                place: Place { line: 2, column: 7 }
-            })
-        )
-    );
-    assert!(rt;
-        matches!(
-            reader.next(),
-            Some(Placed {
-                token: Token::Number(17),
-                place: Place { line: 2, column: 9 }
-            })
-        )
-    );
-    assert!(rt;
-        matches!(
-            reader.next(),
-            Some(Placed {
-                token: Token::Close,
-                place: Place {
-                    line: 2,
-                    column: 11
-                }
-            })
-        )
-    );
+    for (token, column) in [
+        (Token::Open, 1),
+        (Token::Word(b"query"), 2),
+        (Token::Number(0), 7),
+        (Token::Number(17), 9),
+        (Token::Close, 11),
+    ] {
+        let place = Place { line: 2, column };
+        assert_eq!(rt; reader.next(), Some(Placed { token, place }));
+    }
     assert!(rt; reader.next().is_none());
     assert_eq!(rt; told(reader.next_line()), None);
 }

@@ -8,6 +8,7 @@ use crate::store::{Reading, Store};
 use kinds::Kind;
 use std::alloc::{AllocError, Global};
 
+// Stays: the two lists that a plain store lies over.
 #[derive(Drop)]
 pub struct Lists<K> {
     values: Vec<K>,

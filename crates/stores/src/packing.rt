@@ -26,6 +26,7 @@ fn write_record<K: Kind>(row: &mut [u8], what: Option<K>)
 {
     match what {
         Some(value) => {
+            // Stays: behind a pattern `[mark, bytes @ ..]` no name reaches what the row is after the loan.
             if row.is_empty() {
                 return;
             }
@@ -42,6 +43,7 @@ pub fn pack<K: Kind>(bytes: &mut [u8], slot: usize, what: Option<K>) -> Result<(
     ensures after { bytes.new ≡ packed K.Kind.bytes bytes.old slot (option_map K.Kind.meaning what) }
     ensures back { MatchResult result (λ _. ReadsBack (packed_log K.Kind.group K.Kind.bytes bytes.old) (packed_log K.Kind.group K.Kind.bytes bytes.new) slot (option_map K.Kind.meaning what)) (λ _. bytes.new ≡ bytes.old) }
 {
+    // Stays: no plainer than `ok_or(BeyondBytes)?`, behind which the record's place has a longer name in the proof.
     let Some(at) = record_at::<K>(bytes.len(), slot) else {
         return Err(BeyondBytes);
     };

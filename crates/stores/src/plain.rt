@@ -6,6 +6,7 @@ ghost use Rattle.stores.specs.Stores.{plain_log};
 use crate::store::{Mark, Reading, Store};
 use kinds::Kind;
 
+// Stays: two lists side by side are what the plain store is, by a rule of the project.
 #[derive(Clone, Copy, Debug)]
 pub struct Plain<'a, K> {
     pub(crate) values: &'a [K],

@@ -17,6 +17,7 @@ impl Place {
     {
         Place {
             line: self.line,
+            // Stays: the check proves that it fits.
             column: self.column + columns as u32,
         }
     }

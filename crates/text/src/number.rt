@@ -9,7 +9,7 @@ pub fn number(digits: &[u8]) -> Option<u32>
     if digits.len() > 1 && digits[0] == b'0' {
         return None;
     }
-    // Stays: a try_fold leaves `returns` as a goal that takes an induction over its turns, and no short answer.
+    // Stays: tried; behind a `try_fold` `returns` did not close, since no fact says what it went through.
     let mut value: u32 = 0;
     for digit in digits {
         let units = u32::from(digit.saturating_sub(b'0'));

@@ -2,7 +2,7 @@
 use crate::fault::Place;
 
 // A bracket, a number, or a word: the word is a part of the script itself.
-#[derive(Clone, Copy, Debug)]
+#[derive(Clone, Copy, Debug, PartialEq, Eq)]
 pub enum Token<'a> {
     Open,
     Close,
@@ -11,7 +11,7 @@ pub enum Token<'a> {
 }
 
 // A token, with the place of its first byte.
-#[derive(Clone, Copy, Debug)]
+#[derive(Clone, Copy, Debug, PartialEq, Eq)]
 pub struct Placed<'a> {
     pub token: Token<'a>,
     pub place: Place,

@@ -41,6 +41,7 @@ fn slot_lines<K: Kind + fmt::Display>(
     Ok(())
 }
 
+// Stays: the packed bytes and the list are two stores to be compared, and `text` is one of many.
 // What a stretch adds up to in the packed bytes, in the list, and through a window over just its slots.
 fn stretch_lines<K: Kind + fmt::Display>(
     heap: Global,

@@ -16,6 +16,7 @@ use std::{env, io};
 // Standard input, cut one byte past the most that a trace may have.
 fn input(rt: &HostRuntime) -> io::Result<Vec<u8>> {
     let mut bytes = Vec::new(rt.alloc());
+    // Stays: `u64` has no `From<usize>`.
     let _ = rt.stdin().take(MOST as u64 + 1).read_to_end(&mut bytes)?;
     Ok(bytes)
 }
@@ -34,6 +35,7 @@ fn run(rt: &HostRuntime) -> anyhow::Result<()> {
     let bytes = input(rt)?;
     length_asked(bytes.len())?;
     let stretches = rest(words.as_slice());
+    // Stays: three types, of which one is chosen by what was read.
     let all = match kind {
         KindName::Wh => lines::<Wh>(heap, &bytes, stretches)?,
         KindName::Toggles => lines::<Toggles>(heap, &bytes, stretches)?,

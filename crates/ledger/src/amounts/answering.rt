@@ -63,6 +63,7 @@ impl<K: Kind> Amounts<'_, K> {
         }
     }
 
+    // Stays: here and in `answer`, what the query was lent is lent on.
     // What a query answers that meets no fault.
     fn settle<S: Store<K>, R: Rule>(
         &mut self,

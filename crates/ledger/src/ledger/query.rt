@@ -19,6 +19,7 @@ use stores::Store;
 const MOST: u32 = 65_535;
 
 impl Ledger {
+    // Stays: amounts, store, rule and table are each the caller's own, lent for this call alone.
     // Asks for the sum of the range's slots: tells it, or says why not. A refusal's chain is written into the first steps of `chain`.
     pub fn query<K: Kind, S: Store<K>, R: Rule>(
         &mut self,

@@ -15,16 +15,17 @@ use links::Provisional;
 use rules::Rule;
 
 // What a try answers; one that is free joins until the rehearsal ends.
-fn attempt<R: Rule>(links: &mut Provisional<'_>, range: &Try<R>) -> Trial
-    ensures tried { Tried (joined links.old.links.now) (try_of R.Rule.protects R.Rule.ordered range.now) result (joined links.new.links.now) }
+fn attempt<R: Rule>(links: &mut Provisional<'_>, tried: &Try<R>) -> Trial
+    ensures tried { Tried (joined links.old.links.now) (try_of R.Rule.protects R.Rule.ordered tried.now) result (joined links.new.links.now) }
     ensures stays { links.new.links.ghost_name ≡ links.old.links.ghost_name }
     ensures saved { links.new.saved ≡ links.old.saved }
 {
-    let ends = match ends_tried(range) {
+    // Stays: an answer is no `Result`, so that no `?` gives it.
+    let ends = match ends_tried(tried) {
         Ok(ends) => ends,
         Err(fault) => return Trial::Refused(fault),
     };
-    match judge(links.links(), &range.rule, ends) {
+    match judge(links.links(), &tried.rule, ends) {
         Finding::Linked => Trial::Free,
         Finding::Withheld(pair) => Trial::Withheld(pair),
         Finding::Free => {
@@ -48,8 +49,9 @@ impl Ledger {
     {
         let mut links = Provisional::over(&mut self.links);
         let made = tries.len().min(trials.len());
-        for (i, range) in tries[..made].iter().enumerate() {
-            trials[i] = attempt(&mut links, range);
+        for (i, tried) in tries[..made].iter().enumerate() {
+            // Stays: behind `iter_mut` of a zip no fact says what was written at each place.
+            trials[i] = attempt(&mut links, tried);
         }
         made
     }

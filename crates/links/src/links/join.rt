@@ -33,6 +33,7 @@ impl Links {
         let own = self.row(x).size;
         let other = self.row(y).size;
         if own == other {
+            // Stays: an order of boundaries for this one place is no plainer.
             y.index() < x.index()
         } else {
             own < other
@@ -67,6 +68,7 @@ impl Links {
             return None;
         }
         let number = self.joins;
+        // Stays: the two arms differ in order and sign, and each is proved of its own sets.
         if self.yields(x, y) {
             self.hang(
                 x,

@@ -12,6 +12,7 @@ impl Links {
     pub(super) fn number(&self, b: Boundary) -> u16
         ensures { result ≡ number_at self.now.rows b.index }
     {
+        // Stays: no `None`, since `newest` compares two numbers, and a leader counts as newer than all.
         self.row(b).edge.map_or(1024, |edge| edge.number)
     }
 

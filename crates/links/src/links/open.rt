@@ -12,6 +12,7 @@ impl Links {
         ensures { joined result ≡ [] }
     {
         let rows = from_fn(|i| Row {
+            // Stays: the check proves that it fits.
             parent: i as u16,
             size: 1,
             edge: None,

@@ -12,6 +12,7 @@ fn alone() -> [u16; BOUNDARIES]
     ensures long { length result ≡ 1024 }
     ensures each { (i : ℕ) → i < 1024 → slice_index result i ≡ i }
 {
+    // Stays: here and below the check proves that each number fits.
     from_fn(|i| i as u16)
 }
 

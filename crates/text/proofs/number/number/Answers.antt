@@ -1,5 +1,5 @@
 use Rattle.std.proofs.Common.{◌≡◌, ◌+◌, ◌-◌, ◌*◌, false, get_or, drop, Some, sym, ap, ◌∙◌, ⊎_elim, arith}
-use Rattle.std.proofs.lemmas.Bool.{cases_lt, and_left, and_right, and_from, cond-true, le-ltb, lt-ltb, eq-eqb, ne_eqb}
+use Rattle.std.proofs.lemmas.Bool.{cases_lt, and_left, and_right, le-ltb, ne_eqb}
 use Rattle.text.specs.Numbers.{value_after, zero_led}
 use Rattle.text.proofs.Values.{value_more, value_all, not_led, outgrown}
 use Rattle.text.proofs.number.number.Goals as goal
@@ -20,10 +20,6 @@ returns-in_err-value c =
     let units : c.from-units.result ≡ get_or now i 0 - 48 = omega arith in
     c.from_residual-in_err-value.ensures
     ∙ sym (⊎_elim (λ h. absurd (c.in_err-value.ensures h)) (λ h. outgrown now i c.loop-digit.value c.loop-digit-test.true c.loop-digit.invariant.1 (omega (arith, ten.1))) (cases_lt (c.in_ok-checked_mul.field-0 + c.from-units.result) 4294967296))
-
-pub returns-then-digits-eq48 : goal.returns-then-digits-eq48
-returns-then-digits-eq48 c =
-    sym (cond-true _ _ _ (and_from _ _ (lt-ltb _ _ c.if-digits-gt1.true) (eq-eqb _ _ c.if-digits-eq48.true)))
 
 pub loop-digit-preserved : goal.loop-digit-preserved
 loop-digit-preserved c =

@@ -1,27 +1,10 @@
-use Rattle.std.proofs.Common.{◌≡◌, map, length, Some, None, sym, refl, ◌∙◌, subst, inl}
+use Rattle.std.proofs.Common.{◌≡◌, map, length, Some, sym, refl, ◌∙◌, inl}
 use lib.ListN.{length-map}
 use Rattle.stores.specs.Log.{meant}
 use Rattle.ledger.specs.Machine.{range_fault}
-use Rattle.ledger.specs.State.{rule_of, valued_answer, SameOrJoined}
-use Rattle.ledger.proofs.Responding.{responds_settled, responds_refused}
+use Rattle.ledger.specs.State.{rule_of}
+use Rattle.ledger.proofs.Responding.{responds_refused}
 use Rattle.ledger.proofs.amounts.Amounts.answer.Goals as goal
-
-pub returns-in-Ok : goal.returns-in-Ok
-returns-in-Ok g c =
-    let log = meant g.K.Kind.meaning (g.S.Store.log c.args.store.now) in
-    let rule = rule_of (g.R.Rule.protects c.args.rule.now) (g.R.Rule.ordered c.args.rule.now) in
-    let table = c.args.self.now.distances.table.now in
-    let ends = c.in-Ok.ensures.fault in
-    let slots : c.slots.result ≡ log.slots = c.slots.ensures in
-    let many : c.len.result ≡ length (map g.K.Kind.meaning table) = c.len.ensures ∙ sym (length-map table g.K.Kind.meaning) in
-    let none : range_fault log.slots (length (map g.K.Kind.meaning table)) (length c.args.chain.now) c.args.range.low c.args.range.high ≡ None =
-    (λ i. range_fault (sym slots i) (sym many i) (length c.args.chain.now) c.args.range.low c.args.range.high) ∙ ends.0 in
-    record {
-      responds = responds_settled g.K.Kind.group log rule c.args.links.now c.settle.new.links (map g.K.Kind.meaning table) (map g.K.Kind.meaning c.settle.new.self.distances.table.now) c.args.chain.now c.settle.new.chain c.args.range.low c.args.range.high c.in-Ok.ends.low.index c.in-Ok.ends.high.index (valued_answer g.K.Kind.meaning c.settle.result) ends.1 ends.2 none c.settle.ensures.settles;
-      others = subst (λ y. SameOrJoined g.K.Kind.group g.K.Kind.meaning c.args.links.now c.settle.new.links table c.settle.new.self.distances.table.now c.args.range.low y) ends.2 (subst (λ x. SameOrJoined g.K.Kind.group g.K.Kind.meaning c.args.links.now c.settle.new.links table c.settle.new.self.distances.table.now x c.in-Ok.ends.high.index) ends.1 c.settle.ensures.others);
-      unfull = c.settle.ensures.unfull;
-      stays = c.settle.ensures.stays;
-    }
 
 pub returns-in-Err : goal.returns-in-Err
 returns-in-Err g c =

@@ -1,8 +1,8 @@
-use Rattle.std.proofs.Common.{◌≡◌, ℕ, ◌<◌, ◌≤◌, List, length, take, drop, refl, ◌∙◌, subst, arith}
+use Rattle.std.proofs.Common.{◌≡◌, ℕ, ◌<◌, ◌≤◌, List, length, take, refl, ◌∙◌, arith}
 use Rattle.std.proofs.lemmas.List.{length-take-le}
 use Rattle.links.proofs.Chained.{acyclic}
 use Rattle.ledger.specs.Tries.{try_of}
-use Rattle.ledger.proofs.Attempts.{Reaches, reaches_next, all_reached, rehearsed_from, drop_past, ledger_same}
+use Rattle.ledger.proofs.Attempts.{Reaches, reaches_next, all_reached, rehearsed_from, drop_past}
 use Rattle.ledger.proofs.Outcomes.{one_rehearsal}
 use Rattle.ledger.proofs.ledger.Ledger.rehearse.Goals as goal
 
@@ -20,7 +20,7 @@ loop-i-preserved g c =
     let many = c.min-made.ensures in
     let long = length-take-le c.min-made.result c.args.tries.now (omega arith) in
     let here : c.loop-i.i < length c.loop-i.trials = omega (arith, c.loop-i-test.true) in (
-      reaches_next (try_of g.R.Rule.protects g.R.Rule.ordered) (take c.min-made.result c.args.tries.now) c.loop-i.trials c.loop-i.i c.range-item.result c.attempt.result c.loop-i-test.true here c.range-item.is inv.0 c.attempt.ensures.tried,
+      reaches_next (try_of g.R.Rule.protects g.R.Rule.ordered) (take c.min-made.result c.args.tries.now) c.loop-i.trials c.loop-i.i c.tried-item.result c.attempt.result c.loop-i-test.true here c.tried-item.is inv.0 c.attempt.ensures.tried,
       drop_past c.loop-i.trials c.args.trials.now c.loop-i.i c.attempt.result inv.1,
       c.attempt.ensures.saved ∙ inv.2,
       c.attempt.ensures.stays ∙ inv.3,
@@ -31,16 +31,6 @@ returns-clause-tried g c =
     let end = made_all c.min-made.result c.loop-i.i c.args.tries.now (omega (arith, c.min-made.ensures)) c.loop-i-test.false c.loop-i.auto.i-end in
     rehearsed_from c.over-links.result.links.now c.args.self.now.links c.over-links.ensures.same
     (all_reached _ c.args.tries.now c.loop-i.trials c.min-made.result c.loop-i.i c.loop-i-test.false end c.loop-i.invariant.0)
-
-pub returns-clause-rest : goal.returns-clause-rest
-returns-clause-rest g c =
-    subst (λ (n : ℕ). drop n c.loop-i.trials ≡ drop n c.args.trials.now) (made_all c.min-made.result c.loop-i.i c.args.tries.now (omega (arith, c.min-made.ensures)) c.loop-i-test.false c.loop-i.auto.i-end) c.loop-i.invariant.1
-
-pub returns-clause-same : goal.returns-clause-same
-returns-clause-same g c =
-    let inv = c.loop-i.invariant in
-    let first = c.over-links.ensures in
-    ledger_same _ _ (c.drop-links.ensures ∙ (inv.2 ∙ first.saved)) refl refl
 
 pub returns-clause-exact : goal.returns-clause-exact
 returns-clause-exact g c = one_rehearsal
