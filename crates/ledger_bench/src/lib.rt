@@ -17,7 +17,7 @@ fn digest(answer: &Answer<Wh>) -> u32 {
     match answer {
         Answer::Released(value) => value.amount,
         Answer::Withheld(pair, steps) => {
-            (u32::from(pair.low) * 1024 + u32::from(pair.high))
+            (pair.low as u32 * 1024 + pair.high as u32)
                 .wrapping_mul(1024)
                 .wrapping_add((*steps % 1024) as u32)
         }
