@@ -1,15 +1,10 @@
 -- What the entries of a table mean, read and written one at a time.
-use Rattle.std.proofs.Common.{◌≡◌, ℕ, ◌<◌, ◌≤◌, List, map, length, set, ap, ◌∙◌, arith}
-use Rattle.std.proofs.lemmas.List.{get_or_past, length-map, map-set, get_or-set_same, get_or-set_other}
+use Rattle.std.proofs.Common.{◌≡◌, ℕ, ◌<◌, List, map, length, set, ap, ◌∙◌, arith}
+use Rattle.std.proofs.lemmas.List.{length-map, map-set, get_or-set_same, get_or-set_other}
 use Rattle.kinds.specs.Group.{Group}
 use Rattle.distances.specs.Distance.{entry}
 
 module _ {K V : Type 0} (G : Group V) (meaning : K → V) (table : List K) where
-  pub entry_past : (i : ℕ) → length table ≤ i → entry G (map meaning table) i ≡ G.zero
-  entry_past i l =
-      let e = length-map table meaning in
-      get_or_past (map meaning table) i G.zero (let z : length (map meaning table) ≤ i = omega arith in z)
-
   pub entry_set : (i : ℕ) (x : K) → i < length table → entry G (map meaning (set table i x)) i ≡ meaning x
   entry_set i x l =
       let e = length-map table meaning in

@@ -8,7 +8,6 @@ use Rattle.links.proofs.History.{leads}
 use Rattle.links.proofs.Sound.{grown}
 use Rattle.links.proofs.Invariant.{sound}
 use Rattle.distances.specs.Distance.{entry, distance}
-use Rattle.distances.proofs.Groups.{zero_left}
 use Rattle.distances.proofs.Far.{far_none, far_up}
 
 module _ {V : Type 0} (G : Group V) (links : Links) (table : List V) where
@@ -38,9 +37,6 @@ module _ {V : Type 0} (G : Group V) (links : Links) (table : List V) where
       ap (λ v. G.plus v (distance G links table p)) (fe ∙ ap (G.plus far) ee)
       ∙ (G.assoc far (entry G table i) (distance G links table p)
       ∙ (ap (G.plus far) (sym (above_near i p a)) ∙ so))
-
-  pub walk_starts : (b : ℕ) (far : V) → far ≡ G.zero → G.plus far (distance G links table b) ≡ distance G links table b
-  walk_starts b far e = ap (λ v. G.plus v (distance G links table b)) e ∙ zero_left G (distance G links table b)
 
   pub walk_ends : (b i : ℕ) (far : V) → IsLeader links i → G.plus far (distance G links table i) ≡ distance G links table b
       → far ≡ distance G links table b

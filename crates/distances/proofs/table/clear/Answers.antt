@@ -1,7 +1,6 @@
 -- Each turn makes one more entry zero, and past the table's end every entry counts as zero.
-use Rattle.std.proofs.Common.{◌<◌, ◌≤◌, length, ◌∙◌, ⊎_elim, arith, below_more}
-use Rattle.std.proofs.lemmas.Bool.{cases_lt}
-use Rattle.distances.proofs.Entries.{entry_past, entry_set, entry_kept}
+use Rattle.std.proofs.Common.{◌<◌, length, ◌∙◌, arith, below_more}
+use Rattle.distances.proofs.Entries.{entry_set, entry_kept}
 use Rattle.distances.proofs.table.clear.Goals as goal
 
 pub loop-entry-preserved : goal.loop-entry-preserved
@@ -14,15 +13,3 @@ loop-entry-preserved g c =
     below_more _ _
     (λ k h. entry_kept G m table at k c.zero.result (λ e. omega arith) ∙ c.loop-entry.invariant k h)
     (entry_set G m table at c.zero.result within ∙ c.zero.ensures)
-
-pub returns : goal.returns
-returns g c =
-    record {
-      zeros =
-          λ i.
-          ⊎_elim
-          (λ (h : i < length c.loop-entry.table). c.loop-entry.invariant i (omega arith))
-          (λ (h : length c.loop-entry.table ≤ i). entry_past g.K.Kind.group g.K.Kind.meaning c.loop-entry.table i h)
-          (cases_lt i (length c.loop-entry.table));
-      len = c.loop-entry.auto.table;
-    }

@@ -1,12 +1,7 @@
 -- The way starts with nothing behind it, grows by an entry at each step up, and ends at the leader.
-use Rattle.std.proofs.Common.{map, sym, refl, ◌∙◌}
-use Rattle.distances.proofs.Walking.{walk_starts, walk_on, walk_ends}
+use Rattle.std.proofs.Common.{map, sym, ◌∙◌}
+use Rattle.distances.proofs.Walking.{walk_on, walk_ends}
 use Rattle.distances.proofs.distances.Distances.find.Goals as goal
-
-pub loop-up-init : goal.loop-up-init
-loop-up-init g c =
-    let table = map g.K.Kind.meaning c.args.self.now.table.now in
-    (refl, walk_starts g.K.Kind.group c.args.links.now table c.args.b.index _ c.zero-far.ensures)
 
 pub loop-up-preserved : goal.loop-up-preserved
 loop-up-preserved g c =

@@ -15,9 +15,3 @@ bounds-leaders-b c = within c.args.self.now _ _ _ _ c.loop-b.invariant c.in-Some
 
 pub loop-b-preserved : goal.loop-b-preserved
 loop-b-preserved c = led_more c.args.self.now _ _ _ _ c.loop-b.invariant c.in-Some.ensures.steps
-
-pub returns-clause-long : goal.returns-clause-long
-returns-clause-long c = c.loop-b.invariant.long
-
-pub returns-clause-each : goal.returns-clause-each
-returns-clause-each c = λ i h. c.loop-b.invariant.each i h (let e = c.in-None.ensures.steps.0 in omega arith)

@@ -32,16 +32,6 @@ loop-p-preserved-then-number c =
     (climbed links.rows links.joins (sound links) c.args.x.index c.args.y.index c.loop-p.p.index c.loop-p.q.index c.requires.one c.loop-p.invariant lt
     (let apart : c.parent-up.result.index ≡ c.loop-p.q.index → ⊥ = search rules in λ e. apart (c.parent-up.ensures ∙ e)))
 
-pub loop-p-smaller-then-number : goal.loop-p-smaller-then-number
-loop-p-smaller-then-number c =
-    let links = c.args.self.now in
-    let lt : number_at links.rows c.loop-p.p.index < number_at links.rows c.loop-p.q.index = omega arith in
-    let up = rises links.rows links.joins (sound links) c.args.x.index c.args.y.index c.loop-p.p.index c.loop-p.q.index c.requires.one c.loop-p.invariant lt in
-    let low = lower_joined links.rows links.joins (sound links) c.args.x.index c.args.y.index c.loop-p.p.index c.loop-p.q.index c.requires.one c.loop-p.invariant (omega arith) in
-    let few = links.few in
-    let e = ap (number_at links.rows) c.parent-up.ensures in
-    omega arith
-
 pub returns-then-eq-2 : goal.returns-then-eq-2
 returns-then-eq-2 c =
     let links = c.args.self.now in
