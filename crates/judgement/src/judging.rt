@@ -1,5 +1,6 @@
 // The judgement of a range.
-ghost use Rattle.links.specs.Joined.{joined};
+ghost use Rattle.std.specs.Prelude.{◌≡◌, ◌<◌, ◌≢◌};
+ghost use Rattle.links.specs.Joined.{joined, leader_of};
 ghost use Rattle.judgement.specs.Judgement.{Found};
 
 use crate::finding::Finding;
@@ -7,6 +8,22 @@ use crate::search::across;
 use links::{Boundary, Links};
 use ranges::Range;
 use rules::Rule;
+
+// Stays apart from `judge`, at the price of five parameters: its tables are paid for at entry, and a linked range needs none.
+// What is found on a range whose ends are not linked, but led by `x` and `y`.
+#[inline(never)]
+fn search<R: Rule>(links: &Links, rule: &R, ends: Range<Boundary>, x: u16, y: u16) -> Finding
+    requires low { x ≡ leader_of links.now ends.low.index }
+    requires high { y ≡ leader_of links.now ends.high.index }
+    requires inside { (x < 1024) × (y < 1024) }
+    requires apart { x ≢ y }
+    ensures { Found (joined links.now) (R.Rule.protects rule.now) (record { low = ends.low.index; high = ends.high.index }) result }
+{
+    match across(rule, &links.leaders(), x, y) {
+        Some(pair) => Finding::Withheld(pair),
+        None => Finding::Free,
+    }
+}
 
 // What the joined ranges and the rule say of a range, whose ends need not be in order.
 pub fn judge<R: Rule>(links: &Links, rule: &R, ends: Range<Boundary>) -> Finding
@@ -17,8 +34,5 @@ pub fn judge<R: Rule>(links: &Links, rule: &R, ends: Range<Boundary>) -> Finding
     if x == y {
         return Finding::Linked;
     }
-    match across(rule, &links.leaders(), x, y) {
-        Some(pair) => Finding::Withheld(pair),
-        None => Finding::Free,
-    }
+    search(links, rule, ends, x, y)
 }
