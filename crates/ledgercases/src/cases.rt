@@ -49,7 +49,8 @@ pub fn answers(heap: Global, text: &str) -> Result<Lines, AllocError> {
             Line::Close => true,
         };
         run_case(&orders, closing, &mut out)?;
-        orders.clear();
+        // A new list, so that the memory of a long case is free for what follows.
+        orders = Vec::new(heap);
     }
     run_case(&orders, false, &mut out)?;
     Ok(out)
