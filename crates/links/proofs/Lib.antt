@@ -16,6 +16,7 @@ pub mod Making
 mod Climbing
 mod Crossed
 pub mod Chained
+pub mod Same
 pub mod Labels
 pub mod Paths
 pub mod Lengths
