@@ -13,4 +13,5 @@ pub use amounts::Amounts;
 pub use answer::{Answer, Counts, Fault, Trial};
 pub use ledger::{Ledger, open};
 pub use token::NewLog;
+pub use told::Told;
 pub use trying::Try;
