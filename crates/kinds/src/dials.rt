@@ -9,7 +9,7 @@ ghost use Rattle.kinds.specs.declared.names.KindName.{KindName};
 ghost use Rattle.kinds.specs.Kinds.{DialValue, dials_group, dials_meaning, dials_eq, dials_held, dials_bytes, dials_numbers};
 ghost use Rattle.kinds.specs.Held.{residue_self, dials_equal};
 
-use crate::kind::{Kind, WrongLength, fill};
+use crate::kind::{Kind, NamedKind, WrongLength, fill};
 use crate::names::KindName;
 use std::fmt;
 
@@ -71,10 +71,6 @@ impl fmt::Display for Dials {
 }
 
 impl Kind for Dials {
-    ghost NAME = { KindName.Dials };
-
-    const NAME: KindName = KindName::Dials;
-
     ghost Value = { DialValue };
 
     ghost group = { dials_group };
@@ -177,4 +173,10 @@ impl Kind for Dials {
         };
         Dials::within(u16::try_from(litres).ok()?, u16::try_from(starts).ok()?)
     }
+}
+
+impl NamedKind for Dials {
+    ghost NAME = { KindName.Dials };
+
+    const NAME: KindName = KindName::Dials;
 }

@@ -25,11 +25,6 @@ pub(crate) fn fill<T: Copy>(out: &mut [T], row: &[T]) -> Result<(), WrongLength>
 
 // Two readings are equal just where they mean the same value.
 pub trait Kind: Copy + Eq {
-    // The kind's own name.
-    ghost NAME: { KindName };
-
-    const NAME: KindName;
-
     // The values of the kind.
     ghost Value: { Type 0 };
 
@@ -86,4 +81,11 @@ pub trait Kind: Copy + Eq {
     ghost bytes_long: { bytes.size ≡ BYTES };
 
     ghost numbers_long: { numbers.size ≡ NUMBERS };
+}
+
+// A kind that has a name of its own, by which it is printed and asked for.
+pub trait NamedKind: Kind {
+    ghost NAME: { KindName };
+
+    const NAME: KindName;
 }

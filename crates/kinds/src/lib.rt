@@ -8,7 +8,7 @@ mod toggles;
 mod wh;
 
 pub use dials::Dials;
-pub use kind::{Kind, WrongLength};
+pub use kind::{Kind, NamedKind, WrongLength};
 pub use names::{KindName, UnknownKind};
 pub use toggles::Toggles;
 pub use wh::Wh;

@@ -10,7 +10,7 @@ ghost use Rattle.kinds.specs.declared.names.KindName.{KindName};
 ghost use Rattle.kinds.specs.Kinds.{toggles_group, toggles_meaning, toggles_eq, toggles_held, toggles_bytes, toggles_numbers};
 ghost use Rattle.kinds.specs.Held.{residue_self, residues_equal};
 
-use crate::kind::{Kind, WrongLength, fill};
+use crate::kind::{Kind, NamedKind, WrongLength, fill};
 use crate::names::KindName;
 use std::fmt;
 
@@ -45,10 +45,6 @@ impl fmt::Display for Toggles {
 }
 
 impl Kind for Toggles {
-    ghost NAME = { KindName.Toggles };
-
-    const NAME: KindName = KindName::Toggles;
-
     ghost Value = { Residue (2 ^ 16) };
 
     ghost group = { toggles_group };
@@ -139,4 +135,10 @@ impl Kind for Toggles {
             mask: u16::try_from(mask).ok()?,
         })
     }
+}
+
+impl NamedKind for Toggles {
+    ghost NAME = { KindName.Toggles };
+
+    const NAME: KindName = KindName::Toggles;
 }

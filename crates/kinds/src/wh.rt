@@ -10,7 +10,7 @@ ghost use Rattle.kinds.specs.declared.names.KindName.{KindName};
 ghost use Rattle.kinds.specs.Kinds.{wh_group, wh_meaning, wh_eq, wh_held, wh_bytes, wh_numbers};
 ghost use Rattle.kinds.specs.Held.{residue_self, residues_equal};
 
-use crate::kind::{Kind, WrongLength, fill};
+use crate::kind::{Kind, NamedKind, WrongLength, fill};
 use crate::names::KindName;
 use std::fmt;
 
@@ -44,10 +44,6 @@ impl fmt::Display for Wh {
 }
 
 impl Kind for Wh {
-    ghost NAME = { KindName.Wh };
-
-    const NAME: KindName = KindName::Wh;
-
     ghost Value = { Residue (2 ^ 32) };
 
     ghost group = { wh_group };
@@ -138,4 +134,10 @@ impl Kind for Wh {
         };
         Some(Wh { amount })
     }
+}
+
+impl NamedKind for Wh {
+    ghost NAME = { KindName.Wh };
+
+    const NAME: KindName = KindName::Wh;
 }

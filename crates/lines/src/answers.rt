@@ -8,7 +8,7 @@ ghost use Rattle.lines.specs.Fits.{Whole, ModestAnswer};
 use crate::pairs::Pair;
 use crate::piece::{Each, Piece, Text};
 use crate::sums::sum_line;
-use kinds::{Kind, KindName};
+use kinds::{Kind, KindName, NamedKind};
 use ledger::Answer;
 use links::Step;
 use ranges::Range;
@@ -69,14 +69,14 @@ pub fn named_answer_line<K: Kind>(
 }
 
 // The same line under the kind's own word.
-pub fn answer_line<K: Kind>(
+pub fn answer_line<K: NamedKind>(
     out: &mut [u8],
     range: Range<u32>,
     answer: &Answer<K>,
     table: &[Step],
 ) -> Option<usize>
-    ensures text { Wrote (answer_line K.Kind.NAME K.Kind.numbers range.low range.high (valued_answer K.Kind.meaning answer.now) table.now) out.old out.new result }
-    ensures whole { ModestAnswer answer.now table.now → Whole (answer_line K.Kind.NAME K.Kind.numbers range.low range.high (valued_answer K.Kind.meaning answer.now) table.now) out.old result }
+    ensures text { Wrote (answer_line K.NamedKind.NAME K.Kind.numbers range.low range.high (valued_answer K.Kind.meaning answer.now) table.now) out.old out.new result }
+    ensures whole { ModestAnswer answer.now table.now → Whole (answer_line K.NamedKind.NAME K.Kind.numbers range.low range.high (valued_answer K.Kind.meaning answer.now) table.now) out.old result }
 {
     named_answer_line(out, K::NAME, range, answer, table)
 }

@@ -6,7 +6,7 @@ ghost use Rattle.lines.specs.Fits.{Whole, ModestAnswer};
 ghost use Rattle.lines.specs.Lines.{answer_line, tally_line, closed_line, fault_line};
 
 use crate::sink::Sink;
-use kinds::Kind;
+use kinds::NamedKind;
 use ledger::{Answer, Counts};
 use lines::{ScriptFault, Short, answer_line, closed_line, fault_line, has_room, tally_line};
 use links::Step;
@@ -61,8 +61,8 @@ pub(crate) struct AnswerLine<'a, K> {
     pub(crate) table: &'a [Step],
 }
 
-impl<K: Kind> Line for AnswerLine<'_, K> {
-    ghost text = { λ it. answer_line K.Kind.NAME K.Kind.numbers it.range.low it.range.high (valued_answer K.Kind.meaning it.answer.now) it.table.now };
+impl<K: NamedKind> Line for AnswerLine<'_, K> {
+    ghost text = { λ it. answer_line K.NamedKind.NAME K.Kind.numbers it.range.low it.range.high (valued_answer K.Kind.meaning it.answer.now) it.table.now };
 
     ghost modest = { λ it. ModestAnswer it.answer.now it.table.now };
 

@@ -1,5 +1,5 @@
 // The kinds at their ends: addition, inverses, equality, and rows of a wrong length.
-use kinds::{Dials, Kind, KindName, Toggles, UnknownKind, Wh};
+use kinds::{Dials, Kind, KindName, NamedKind, Toggles, UnknownKind, Wh};
 use std::process::Abort;
 use std::test::Fail;
 

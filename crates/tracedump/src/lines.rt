@@ -1,7 +1,7 @@
 // The lines that say what the flash bytes of a trace hold.
 use crate::compare::difference;
 use crate::request::Stretch;
-use kinds::Kind;
+use kinds::{Kind, NamedKind};
 use ranges::Range;
 use std::alloc::{AllocError, Global};
 use std::fmt;
@@ -121,7 +121,7 @@ fn repacked_line<K: Kind>(
 }
 
 // All lines of a trace: its size, its slots, the same slots as a list and through a window, the stretches, and packing again.
-pub fn lines<K: Kind + fmt::Display>(
+pub fn lines<K: NamedKind + fmt::Display>(
     heap: Global,
     bytes: &[u8],
     stretches: &[String],
