@@ -6,3 +6,4 @@ pub mod Pairs
 pub mod Kinds
 pub mod Held
 pub mod Names
+pub mod Texts

@@ -3,8 +3,10 @@ ghost use Rattle.std.specs.Prelude.{◌≡◌, refl, ◌+◌, ◌-◌, ◌%◌, 
 ghost use Rattle.std.proofs.Common.{lit<, rules};
 ghost use Rattle.std.specs.Cmp.Rules.{comparing};
 ghost use Rattle.std.specs.Option.{option_map};
+ghost use Rattle.std.specs.Fmt.{DisplaysOnOk};
 ghost use Rattle.kinds.specs.Codec.{fitted, filled};
 ghost use Rattle.kinds.specs.Digits.{digits, number};
+ghost use Rattle.kinds.specs.Texts.{numbers_text};
 ghost use Rattle.kinds.specs.declared.names.KindName.{KindName};
 ghost use Rattle.kinds.specs.Kinds.{DialValue, dials_group, dials_meaning, dials_eq, dials_held, dials_bytes, dials_numbers};
 ghost use Rattle.kinds.specs.Held.{residue_self, dials_equal};
@@ -63,8 +65,14 @@ impl Eq for Dials {
     ghost laws = { Prim.search (comparing, rules) };
 }
 
+// Printed are the numbers that the kind writes of the value.
 impl fmt::Display for Dials {
-    fn fmt<W: fmt::Write>(&self, f: &mut fmt::Formatter<W>) -> fmt::Result {
+    ghost output = { λ x. Some (numbers_text (dials_numbers.write (dials_meaning x))) };
+
+    fn fmt<W: fmt::Write>(&self, f: &mut fmt::Formatter<W>) -> fmt::Result
+        ensures writes { DisplaysOnOk W.write_str_gives f.old result (Some (numbers_text (dials_numbers.write (dials_meaning self.now)))) f.new }
+        ensures value { DisplaysOnOk W.write_str_gives f.old result (Some (numbers_text ((self.now.litres % 10000) ∷ (self.now.starts % 1000) ∷ []))) f.new }
+    {
         let a = self.reduced();
         write!(f, "{} {}", a.litres, a.starts)
     }

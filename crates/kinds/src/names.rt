@@ -1,5 +1,5 @@
 // The kinds by name.
-ghost use Rattle.std.specs.Prelude.{◌≡◌};
+ghost use Rattle.std.specs.Prelude.{◌≡◌, Some, codes};
 ghost use Rattle.kinds.specs.Names.{kind_word, Named};
 
 use std::error::Error;
@@ -26,6 +26,8 @@ impl KindName {
 }
 
 impl fmt::Display for KindName {
+    ghost output = { λ kind. Some (kind_word kind) };
+
     fn fmt<W: fmt::Write>(&self, f: &mut fmt::Formatter<W>) -> fmt::Result {
         f.write_str(self.word())
     }
@@ -36,6 +38,8 @@ impl fmt::Display for KindName {
 pub struct UnknownKind;
 
 impl fmt::Display for UnknownKind {
+    ghost output = { λ _. Some (codes "no kind of reading has that name") };
+
     fn fmt<W: fmt::Write>(&self, f: &mut fmt::Formatter<W>) -> fmt::Result {
         f.write_str("no kind of reading has that name")
     }

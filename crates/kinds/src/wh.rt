@@ -3,9 +3,11 @@ ghost use Rattle.std.specs.Prelude.{◌≡◌, refl, ◌+◌, ◌-◌, ◌%◌, 
 ghost use Rattle.std.proofs.Common.{lit<, rules};
 ghost use Rattle.std.specs.Cmp.Rules.{comparing};
 ghost use Rattle.std.specs.Option.{option_map};
+ghost use Rattle.std.specs.Fmt.{DisplaysOnOk};
 ghost use Rattle.kinds.specs.Codec.{fitted, filled};
 ghost use Rattle.kinds.specs.Digits.{digits, number};
 ghost use Rattle.kinds.specs.Residues.{Residue};
+ghost use Rattle.kinds.specs.Texts.{numbers_text};
 ghost use Rattle.kinds.specs.declared.names.KindName.{KindName};
 ghost use Rattle.kinds.specs.Kinds.{wh_group, wh_meaning, wh_eq, wh_held, wh_bytes, wh_numbers};
 ghost use Rattle.kinds.specs.Held.{residue_self, residues_equal};
@@ -37,9 +39,16 @@ impl Eq for Wh {
     ghost laws = { Prim.search (comparing, rules) };
 }
 
+// Printed are the numbers that the kind writes of the value.
 impl fmt::Display for Wh {
-    fn fmt<W: fmt::Write>(&self, f: &mut fmt::Formatter<W>) -> fmt::Result {
-        write!(f, "{}", self.amount)
+    ghost output = { λ x. Some (numbers_text (wh_numbers.write (wh_meaning x))) };
+
+    fn fmt<W: fmt::Write>(&self, f: &mut fmt::Formatter<W>) -> fmt::Result
+        ensures writes { DisplaysOnOk W.write_str_gives f.old result (Some (numbers_text (wh_numbers.write (wh_meaning self.now)))) f.new }
+        ensures value { DisplaysOnOk W.write_str_gives f.old result (Some (numbers_text (self.now.amount ∷ []))) f.new }
+    {
+        let amount = self.amount;
+        write!(f, "{amount}")
     }
 }
 

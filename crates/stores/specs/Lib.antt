@@ -2,3 +2,4 @@ pub mod Log
 pub mod Stores
 pub mod Sums
 pub mod Packing
+pub mod Texts

@@ -3,6 +3,7 @@ ghost use Rattle.std.specs.Prelude.{◌≡◌};
 ghost use Rattle.stores.specs.Log.{Log, mark_of, told, answer, valued, meant};
 ghost use Rattle.stores.specs.Packing.{slot_of};
 ghost use Rattle.stores.specs.Sums.{kept_at};
+ghost use Rattle.stores.specs.Texts.{reading_text};
 
 use crate::sums::{RangeFault, SumFault};
 use kinds::Kind;
@@ -65,6 +66,8 @@ impl<K: Copy> Reading<K> {
 }
 
 impl<K: fmt::Display> fmt::Display for Reading<K> {
+    ghost output = { reading_text K.output };
+
     fn fmt<W: fmt::Write>(&self, f: &mut fmt::Formatter<W>) -> fmt::Result {
         match self {
             Reading::Value(value) => write!(f, "{value}"),

@@ -1,7 +1,8 @@
 // The sum of a range of slots, read upwards from any store.
-ghost use Rattle.std.specs.Prelude.{◌≡◌};
+ghost use Rattle.std.specs.Prelude.{◌≡◌, Some};
 ghost use Rattle.stores.specs.Log.{meant};
 ghost use Rattle.stores.specs.Sums.{Answers, valued_sum, fault_number};
+ghost use Rattle.stores.specs.Texts.{range_fault_text, sum_fault_text};
 
 use crate::store::Store;
 use kinds::Kind;
@@ -28,6 +29,8 @@ impl RangeFault {
 }
 
 impl fmt::Display for RangeFault {
+    ghost output = { λ fault. Some (range_fault_text fault) };
+
     fn fmt<W: fmt::Write>(&self, f: &mut fmt::Formatter<W>) -> fmt::Result {
         f.write_str(match self {
             RangeFault::BeyondEnd => "ends beyond the last slot",
@@ -46,6 +49,8 @@ pub enum SumFault {
 }
 
 impl fmt::Display for SumFault {
+    ghost output = { λ fault. Some (sum_fault_text fault) };
+
     fn fmt<W: fmt::Write>(&self, f: &mut fmt::Formatter<W>) -> fmt::Result {
         match self {
             SumFault::Lost(slot) => write!(f, "lost slot {slot}"),
