@@ -1,5 +1,5 @@
 // The buffer that a line is made in.
-ghost use Rattle.std.specs.Prelude.{◌≡◌, length, if◌then◌else◌, Ok, Err, nat_lt};
+ghost use Rattle.std.specs.Prelude.{◌≡◌, length, if◌then◌else◌, Ok, Err, Some, codes, nat_lt};
 
 use std::error::Error;
 use std::fmt;
@@ -20,6 +20,8 @@ impl Short {
 }
 
 impl fmt::Display for Short {
+    ghost output = { λ _. Some (codes "the line buffer is too short") };
+
     fn fmt<W: fmt::Write>(&self, f: &mut fmt::Formatter<W>) -> fmt::Result {
         f.write_str("the line buffer is too short")
     }

@@ -1,5 +1,5 @@
 // The words that stand in a line for a kind of reading, and for the layer that found a fault.
-ghost use Rattle.std.specs.Prelude.{◌≡◌};
+ghost use Rattle.std.specs.Prelude.{◌≡◌, Some};
 ghost use Rattle.kinds.specs.Names.{kind_word};
 ghost use Rattle.lines.specs.Words.{layer_word};
 
@@ -35,6 +35,8 @@ impl Layer {
 }
 
 impl fmt::Display for Layer {
+    ghost output = { λ layer. Some (layer_word layer) };
+
     fn fmt<W: fmt::Write>(&self, f: &mut fmt::Formatter<W>) -> fmt::Result {
         f.write_str(self.word())
     }
