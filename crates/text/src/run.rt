@@ -1,8 +1,6 @@
 // The runs of a line: longest stretches of blanks, digits or letters, and every other byte by itself.
 ghost use Rattle.std.specs.Prelude.{◌≡◌, ◌+◌, ◌≤◌, length};
-ghost use Rattle.text.specs.Alphabet.{same};
 ghost use Rattle.text.specs.Runs.{run_length};
-ghost use Rattle.text.specs.declared.alphabet.Class.TheVariants.{Blank};
 
 use crate::alphabet::{Class, classify};
 use crate::fault::Place;
@@ -13,14 +11,6 @@ pub struct Run<'a> {
     pub class: Class,
     pub bytes: &'a [u8],
     pub place: Place,
-}
-
-impl Run<'_> {
-    pub fn is_blank(&self) -> bool
-        ensures { result ≡ same self.now.class Blank }
-    {
-        self.class == Class::Blank
-    }
 }
 
 // What is left of a line, from a place on. It gives the runs one after another.
@@ -39,6 +29,20 @@ fn run_length(bytes: &[u8], class: Class) -> usize
         .iter()
         .position(|byte| !class.holds(*byte))
         .unwrap_or(bytes.len())
+}
+
+impl<'a> Line<'a> {
+    ghost use Rattle.text.specs.Taken.{PastBlanks};
+
+    // The line from its first byte that is no blank.
+    pub fn after_blanks(self) -> Line<'a>
+        ensures { PastBlanks self.entry result }
+    {
+        let length = run_length(self.rest, Class::Blank);
+        let (_, rest) = self.rest.split_at(length);
+        let place = self.place.after(length);
+        Line { rest, place }
+    }
 }
 
 impl<'a> Iterator for Line<'a> {

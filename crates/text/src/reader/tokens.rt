@@ -27,8 +27,8 @@ fn token_of(run: Run<'_>) -> Option<Token<'_>>
 pub(super) fn first_token<'a>(line: Line<'a>) -> Option<(Placed<'a>, Line<'a>)>
     ensures { FindsToken line.entry result }
 {
-    let mut left = line;
-    let run = left.find(|run| !run.is_blank())?;
+    let mut left = line.after_blanks();
+    let run = left.next()?;
     let token = token_of(run)?;
     let place = run.place;
     Some((Placed { token, place }, left))
