@@ -1,5 +1,5 @@
 -- One token taken from those that are left. Assumes nothing.
-use Rattle.std.specs.Prelude.{◌≡◌, List, [], ◌∷◌, drop, Some, None, Option, MatchOption}
+use Rattle.std.specs.Prelude.{◌≡◌, ℕ, ◌+◌, ◌≤◌, List, [], ◌∷◌, length, drop, Some, None, Option, MatchOption}
 use Rattle.text.specs.Runs.{runs}
 use Rattle.text.specs.Script.{State}
 use Rattle.text.specs.Tokens.{Spot, spot, tokens}
@@ -24,10 +24,11 @@ pub record TakesToken (s : State) (r : Option Spot) (t : State) : Type 0 where
 abbrev pub tokens_left : Line → List Spot
 tokens_left s = tokens s.place (runs s.rest.now)
 
--- a line's first token, and what follows it
+-- a line's first token, and what follows it: its columns go no further than its bytes
 pub record Next (s : Line) (t : Spot) (u : Line) : Type 0 where
   pub is : tokens_left s ≡ t ∷ tokens_left u
   pub line : u.place.line ≡ s.place.line
+  pub within : length u.rest.now + u.place.column ≤ length s.rest.now + s.place.column
 
 -- the first token with what follows it, where one is left
 abbrev pub FindsToken : Line → Option (Placed × Line) → Type 0

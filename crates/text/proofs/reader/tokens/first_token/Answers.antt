@@ -1,7 +1,7 @@
 use Rattle.std.proofs.Common.{sym, ap, ◌∙◌}
 use Rattle.text.specs.Found.{tokens_left}
 use Rattle.text.specs.Tokens.{onto}
-use Rattle.text.proofs.Finding.{blanks_passed, token_taken}
+use Rattle.text.proofs.Finding.{blanks_passed, columns_within, token_taken}
 use Rattle.text.proofs.Tokening.{tokens_none}
 use Rattle.text.proofs.reader.tokens.first_token.Goals as goal
 
@@ -23,5 +23,6 @@ returns c =
     let taken = c.in_ok-run.ensures.steps in
     record {
       is = token_taken _ _ _ run past taken ∙ ap (λ o. onto run.place o (tokens_left c.next.new.self)) (sym c.in_ok-token.ensures);
-      line = ap (λ p. p.line) (taken.place) ∙ ap (λ p. p.line) past.place;
+      line = ap (λ p. p.line) taken.place ∙ ap (λ p. p.line) past.place;
+      within = columns_within _ _ _ run past taken;
     }
