@@ -9,9 +9,8 @@ use links::{Boundary, Links};
 use ranges::Range;
 use rules::Rule;
 
-// Stays apart from `judge`, at the price of five parameters: its tables are paid for at entry, and a linked range needs none.
+// Stays apart from `judge`, at the price of five parameters: tables are paid for where a function begins, and a linked range needs none.
 // What is found on a range whose ends are not linked, but led by `x` and `y`.
-#[inline(never)]
 fn search<R: Rule>(links: &Links, rule: &R, ends: Range<Boundary>, x: u16, y: u16) -> Finding
     requires low { x ≡ leader_of links.now ends.low.index }
     requires high { y ≡ leader_of links.now ends.high.index }
