@@ -35,7 +35,7 @@ impl<'a> Line<'a> {
     ghost use Rattle.text.specs.Taken.{PastBlanks};
 
     // The line from its first byte that is no blank.
-    pub fn after_blanks(self) -> Line<'a>
+    pub(crate) fn after_blanks(self) -> Line<'a>
         ensures { PastBlanks self.entry result }
     {
         let length = run_length(self.rest, Class::Blank);
