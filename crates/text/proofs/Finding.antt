@@ -18,16 +18,16 @@ use Rattle.text.proofs.Tokening.{tokens_skip, not_blank, tokens_cut}
 pub blanks_passed : (s t : Line) → PastBlanks s t → tokens_left s ≡ tokens_left t
 blanks_passed s t past = tokens_skip s.place s.rest.now ∙ (λ i. tokens (sym past.place i) (runs (sym past.rest i)))
 
--- the columns go on by the bytes that are taken
-pub columns_within : (s t u : Line) (x : Run) → PastBlanks s t → Taken t x u → length u.rest.now + u.place.column ≤ length s.rest.now + s.place.column
+-- the columns go on by the bytes that are taken, and a token begins no further than it ends
+pub columns_within : (s t u : Line) (x : Run) → PastBlanks s t → Taken t x u → (length u.rest.now + u.place.column ≤ length s.rest.now + s.place.column) × (x.place.column ≤ u.place.column)
 columns_within s t u x past taken =
     let w = run_within Blank s.rest.now in
     let skipped : length t.rest.now ≡ length s.rest.now - run_length Blank s.rest.now =
     ap length past.rest ∙ length-drop (run_length Blank s.rest.now) s.rest.now in
     let moved : t.place.column ≡ s.place.column + run_length Blank s.rest.now = ap (λ p. p.column) past.place in
     let long = cut_length t.place 0 t.rest.now x.class x.bytes.now u.rest.now taken.cut in
-    let on : u.place.column ≡ t.place.column + length x.bytes.now = ap (λ p. p.column) taken.place in
-    omega arith
+    let begun : x.place.column ≡ t.place.column = ap (λ p. p.column) taken.begins in
+    let on : u.place.column ≡ t.place.column + length x.bytes.now = ap (λ p. p.column) taken.place in (omega arith, omega arith)
 
 -- the tokens at the run after the blanks
 pub token_taken : (s t u : Line) (x : Run) → PastBlanks s t → Taken t x u → tokens_left s ≡ onto x.place (symbol_of x.class x.bytes.now) (tokens_left u)

@@ -26,9 +26,9 @@ tokens_left s = tokens s.place (runs s.rest.now)
 
 -- a line's first token, and what follows it: its columns go no further than its bytes
 pub record Next (s : Line) (t : Spot) (u : Line) : Type 0 where
+  pub within : length u.rest.now + u.place.column ≤ length s.rest.now + s.place.column
   pub is : tokens_left s ≡ t ∷ tokens_left u
   pub line : u.place.line ≡ s.place.line
-  pub within : length u.rest.now + u.place.column ≤ length s.rest.now + s.place.column
 
 -- the first token with what follows it, where one is left
 abbrev pub FindsToken : Line → Option (Placed × Line) → Type 0

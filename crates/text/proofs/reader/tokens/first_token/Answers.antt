@@ -1,4 +1,4 @@
-use Rattle.std.proofs.Common.{sym, ap, ◌∙◌}
+use Rattle.std.proofs.Common.{sym, ap, ◌∙◌, arith}
 use Rattle.text.specs.Found.{tokens_left}
 use Rattle.text.specs.Tokens.{onto}
 use Rattle.text.proofs.Finding.{blanks_passed, columns_within, token_taken}
@@ -22,7 +22,7 @@ returns c =
     let past = c.after_blanks-left.ensures in
     let taken = c.in_ok-run.ensures.steps in
     record {
+      within = let w = columns_within _ _ _ run past taken in omega (arith, w.0, w.1);
       is = token_taken _ _ _ run past taken ∙ ap (λ o. onto run.place o (tokens_left c.next.new.self)) (sym c.in_ok-token.ensures);
       line = ap (λ p. p.line) taken.place ∙ ap (λ p. p.line) past.place;
-      within = columns_within _ _ _ run past taken;
     }
